@@ -1,0 +1,47 @@
+ghost use Rattle.std.specs.Prelude.{◌≡◌};
+ghost use Rattle.accmut_app.specs.Status.{number_of};
+
+/// How a command ended.
+#[derive(Clone, Copy, Debug, PartialEq, Eq)]
+pub enum Status {
+    /// The command was carried out, and its whole text was written.
+    Done,
+    /// The words are no command. Nothing was written.
+    Usage,
+    /// The module isn't accepted; the line that says so was written.
+    ModuleRefused,
+    /// The list of mutants isn't accepted; the line that says so was written.
+    MutantsRefused,
+    /// The test suite isn't accepted; the line that says so was written.
+    TestsRefused,
+    /// A file could not be read. Nothing was written.
+    ReadFault,
+    /// The sink failed: a proper prefix of the text or of the line of a refusal was written, perhaps nothing.
+    WriteFault,
+    /// No memory could be had. Nothing was written.
+    OutOfMemory,
+    /// The first file that isn't accepted has more than 4,194,304 bytes. Nothing was written.
+    TooLong,
+    /// A list of mutants would have more than 65,535 of them. No command makes one yet.
+    TooMany,
+}
+
+impl Status {
+    /// The exit status of a program that ends so, from 0 in the order of the variants.
+    pub fn number(self) -> u8
+        ensures { result ≡ number_of self }
+    {
+        match self {
+            Status::Done => 0,
+            Status::Usage => 1,
+            Status::ModuleRefused => 2,
+            Status::MutantsRefused => 3,
+            Status::TestsRefused => 4,
+            Status::ReadFault => 5,
+            Status::WriteFault => 6,
+            Status::OutOfMemory => 7,
+            Status::TooLong => 8,
+            Status::TooMany => 9,
+        }
+    }
+}

@@ -1,0 +1,5 @@
+pub mod Cause
+pub mod Files
+pub mod Outcome
+pub mod Text
+pub mod Word

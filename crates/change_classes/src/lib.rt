@@ -1,0 +1,6 @@
+//! Which items of a list are equal, by the number of the first of them.
+#![tactic(auto)]
+
+mod first;
+
+pub use first::classes_by;

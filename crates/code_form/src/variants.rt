@@ -1,0 +1,236 @@
+ghost use Rattle.std.specs.Prelude.{◌≡◌, ◌≢◌, ℕ, ◌<◌, ◌≤◌, [], length, slice_get, unwrap_or, IfOk, OnOk, OnErr, Contains, ◌↔◌};
+ghost use Rattle.code_form.specs.Variant.{mutants_of, chosen_by, number_at, variant_of, replacements_at, instr_of, Adds, AreDifferent, IsRising};
+ghost use Rattle.code_form.specs.Fit.{FitsPlace, FitsTable};
+ghost use Rattle.code_form.specs.Sites.{mutants_in};
+
+use crate::code::{Code, Place};
+use crate::instr::Instr;
+use crate::site::{Site, add_at};
+use am_base::OutOfMemory;
+use std::alloc::Global;
+use std::marker::Model;
+
+/// The replacements of the mutants: each mutant but mutant 0, the unchanged program, has at most one, at one place. Contracts see a `Table`.
+#[derive(Debug, Drop)]
+pub struct Variants {
+    /// For each mutant the place of its replacement and its number there.
+    chosen: Vec<Option<(u32, u32)>>,
+    /// For each place up to the last one that was mentioned what the mutants put there.
+    sites: Vec<Site>,
+}
+
+impl Model for Variants {
+    ghost use Rattle.code_form.specs.Variant.{Table};
+
+    ghost Value = { Table };
+
+    ghost use Rattle.code_form.specs.Sites.{table_of, IsFiled};
+
+    ghost view = { λ v. table_of v.chosen.items v.sites.items };
+
+    ghost invariant = { λ v. IsFiled v.chosen.items v.sites.items };
+}
+
+impl Variants {
+    /// That many mutants, from 1 to 65,536, mutant 0 included, without a replacement.
+    pub fn new(alloc: Global, mutants: u32) -> Result<Variants, OutOfMemory>
+        requires some { 1 ≤ mutants }
+        requires few { mutants ≤ 65536 }
+        ensures mutants { IfOk result (λ table. mutants_of table ≡ mutants) }
+        ensures nothing_chosen { IfOk result (λ table. (m : ℕ) → chosen_by table m ≡ None) }
+        ensures nothing_mentioned { IfOk result (λ table. (at : ℕ) → replacements_at table at ≡ []) }
+    {
+        Ok(Variants {
+            chosen: vec![in alloc; None; mutants as usize]?,
+            sites: Vec::new(alloc),
+        })
+    }
+
+    /// How many mutants there are, mutant 0 included.
+    pub fn mutants(&self) -> u32
+        ensures mutants { result ≡ mutants_of self.now }
+        ensures some { 1 ≤ result }
+        ensures few { result ≤ 65536 }
+        ensures unchanged { chosen_by self.now 0 ≡ None }
+    {
+        self.chosen.len() as u32
+    }
+
+    /// The number of the replacement that a mutant has at a place: 0 where it has none there, and where its replacement equals the original. Equal
+    /// replacements of one place have one number, from 1 in order of first mention. It takes the same time whatever the number of mutants.
+    pub fn variant(&self, m: u32, place: Place) -> u32
+        ensures number { result ≡ variant_of self.now m place.0 }
+        ensures given { result ≤ length (replacements_at self.now place.0) }
+        ensures different { AreDifferent (replacements_at self.now place.0) }
+    {
+        number_in(choice_of(&self.chosen, m), place.0)
+    }
+
+    /// Gives a mutant from 1 on that has no replacement yet one at a place of the code. It gets number 0 where it equals the code's instruction,
+    /// the number of an equal replacement of the place where there is one, and else the next number. It is refused only for want of memory, and
+    /// then the table is as it was.
+    pub fn add(
+        &mut self,
+        alloc: Global,
+        code: &Code,
+        m: u32,
+        place: Place,
+        with: Instr,
+    ) -> Result<(), OutOfMemory>
+        requires some { 1 ≤ m }
+        requires defined { m < mutants_of self.old }
+        requires unchosen { chosen_by self.old m ≡ None }
+        requires within { place.0 < length code.now.instrs }
+        ensures added { OnOk result (Adds code.now self.old self.new m place.0 with) }
+        ensures mutants { mutants_of self.new ≡ mutants_of self.old }
+        ensures others { (n : ℕ) → n ≢ m → chosen_by self.new n ≡ chosen_by self.old n }
+        ensures fits { FitsTable code.now self.old → FitsPlace code.now place.0 with → FitsTable code.now self.new }
+        ensures err { OnErr result (self.new ≡ self.old) }
+    {
+        let at = place.0 as usize;
+        let original = &code.instrs.as_slice()[at];
+        let number = add_at(&mut self.sites, alloc, at, original, m, with)?;
+        self.chosen[m as usize] = Some((place.0, number));
+        Ok(())
+    }
+
+    /// The mutants whose number at a place isn't 0, rising. It takes the same time whatever their number.
+    pub fn mutants_at(&self, place: Place) -> &[u32]
+        ensures rising { IsRising result.now }
+        ensures exact { (m : ℕ) → Contains result.now m ↔ (0 < variant_of self.now m place.0) }
+    {
+        mutants_of_place(&self.sites, place.0 as usize)
+    }
+
+    /// The instruction that a number stands for at a place of the code: for 0 the code's own.
+    pub fn instr<'a>(&'a self, code: &'a Code, place: Place, v: u32) -> &'a Instr
+        requires within { place.0 < length code.now.instrs }
+        requires given { v ≤ length (replacements_at self.now place.0) }
+        ensures { result.now ≡ instr_of code.now self.now place.0 v }
+    {
+        let at = place.0 as usize;
+        if v == 0 {
+            return &code.instrs.as_slice()[at];
+        }
+        &self.sites[at].replacements.as_slice()[v as usize - 1]
+    }
+}
+
+/// The mutants that have a replacement at a place: none at a place past the last site.
+fn mutants_of_place(sites: &[Site], at: usize) -> &[u32]
+    ensures { result.now ≡ mutants_in sites.now at }
+{
+    match sites.get(at) {
+        Some(site) => site.mutants.as_slice(),
+        None => &[],
+    }
+}
+
+/// The choice of a mutant: the place and the number of its replacement.
+fn choice_of(chosen: &[Option<(u32, u32)>], m: u32) -> Option<(u32, u32)>
+    ensures { result ≡ unwrap_or (slice_get chosen.now m) None }
+{
+    match chosen.get(m as usize) {
+        Some(choice) => *choice,
+        None => None,
+    }
+}
+
+/// The number that a choice gives at a place.
+fn number_in(choice: Option<(u32, u32)>, at: u32) -> u32
+    ensures { result ≡ number_at choice at }
+{
+    match choice {
+        Some((chosen, number)) if chosen == at => number,
+        _ => 0,
+    }
+}
+
+#[cfg(test)]
+mod tests {
+    use super::*;
+    use crate::instr::Operand;
+    use crate::same::same_instr;
+    use am_base::Width;
+    use am_lists::Items;
+    use std::test::Fail;
+
+    /// `freeze` of a word.
+    fn freeze(word: u64) -> Instr {
+        Instr::Freeze(Operand::Word(word))
+    }
+
+    /// A code of three instructions.
+    fn three(alloc: Global) -> Result<Code, OutOfMemory>
+        ensures { IfOk result (λ code. length code.instrs ≡ 3) }
+    {
+        Ok(Code {
+            funcs: Items::new(alloc),
+            instrs: Items::from_vec(vec![in alloc;
+                freeze(0),
+                Instr::Load(Width::W8, Operand::Word(1024)),
+                Instr::Ret(None),
+            ]?),
+            results: Items::new(alloc),
+            memory: Items::new(alloc),
+            const_end: 1024,
+            stack_base: 1024,
+            signs: Items::new(alloc),
+        })
+    }
+
+    /// A table of seven mutants with five replacements.
+    fn filled(alloc: Global, code: &Code) -> Result<Variants, OutOfMemory>
+        requires { length code.now.instrs ≡ 3 }
+    {
+        let mut table = Variants::new(alloc, 7)?;
+        table.add(alloc, code, 5, Place(0), freeze(8))?;
+        table.add(alloc, code, 2, Place(0), freeze(9))?;
+        table.add(alloc, code, 4, Place(0), freeze(8))?;
+        table.add(alloc, code, 1, Place(0), freeze(0))?;
+        table.add(alloc, code, 3, Place(1), freeze(9))?;
+        Ok(table)
+    }
+
+    #[test]
+    fn numbers_replacements(rt: HostRuntime) -> Result<(), Fail> {
+        let code = three(rt.alloc())?;
+        let table = filled(rt.alloc(), &code)?;
+        assert_eq!(rt; table.mutants(), 7);
+        let rows = [
+            // Mutant 5 mentions its replacement first, mutant 4 has the same, and that of mutant 1 is the original.
+            (0, [0, 0, 2, 0, 1, 1, 0]),
+            (1, [0, 0, 0, 1, 0, 0, 0]),
+            (2, [0, 0, 0, 0, 0, 0, 0]),
+            (9, [0, 0, 0, 0, 0, 0, 0]),
+        ];
+        for (place, numbers) in rows {
+            for m in 0..7 {
+                assert_eq!(rt;
+                    table.variant(m, Place(place)),
+                    numbers[m as usize],
+                    "of {m} at {place}"
+                );
+            }
+        }
+        assert_eq!(rt; table.mutants_at(Place(0)), [2, 4, 5].as_slice());
+        assert_eq!(rt; table.mutants_at(Place(1)), [3].as_slice());
+        assert!(rt; table.mutants_at(Place(2)).is_empty());
+        assert!(rt; table.mutants_at(Place(9)).is_empty());
+        Ok(())
+    }
+
+    #[test]
+    fn gives_instructions(rt: HostRuntime) -> Result<(), Fail> {
+        let code = three(rt.alloc())?;
+        let table = filled(rt.alloc(), &code)?;
+        for (m, word) in [(0, 0), (1, 0), (2, 9), (3, 0), (4, 8), (5, 8), (6, 0)] {
+            let number = table.variant(m, Place(0));
+            assert!(rt;
+                same_instr(table.instr(&code, Place(0), number), &freeze(word)),
+                "of {m}"
+            );
+        }
+        Ok(())
+    }
+}

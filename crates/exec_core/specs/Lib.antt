@@ -1,0 +1,6 @@
+pub mod Toy
+pub mod ToyLaws
+pub mod ToyView
+pub mod Example
+pub mod Ends
+pub mod Splits

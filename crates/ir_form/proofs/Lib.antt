@@ -1,0 +1,10 @@
+pub mod Classes
+pub mod Spelled
+pub mod Reached
+pub mod Gaps
+pub mod Longest
+pub mod Cut
+pub mod Places
+pub mod Digits
+pub mod Values
+pub mod Rows

@@ -1,0 +1,88 @@
+ghost use Rattle.ir_form.specs.Bytes.{is_colon, is_quote};
+ghost use Rattle.ir_form.specs.Front as spec;
+ghost use Rattle.std.specs.Char.{is_ascii_digit};
+ghost use Rattle.std.specs.Prelude.{length, ◌<◌, ◌≡◌, ◌≤◌, ◌^◌};
+
+use crate::class::Class;
+use ir_form::{is_digits, small_number};
+
+/// The bytes of the quoted text at the front, and 0 where there is none.
+#[tactic(auto, unfolding(ir_form::specs::Front::quoted_len))]
+pub fn quoted_len(text: &[u8]) -> usize
+    requires { length text.now < 2 ^ 62 }
+    ensures value { result ≡ spec.quoted_len text.now }
+    ensures within { result ≤ length text.now }
+{
+    match text {
+        [b'"', body @ ..] => {
+            let len = Class::Body.prefix_len(body);
+            if len < body.len() { len + 2 } else { 0 }
+        }
+        _ => 0,
+    }
+}
+
+pub fn begins_quote(text: &[u8]) -> bool
+    ensures { result ≡ spec.begins is_quote text.now }
+{
+    matches!(text, [b'"', ..])
+}
+
+pub fn begins_colon(text: &[u8]) -> bool
+    ensures { result ≡ spec.begins is_colon text.now }
+{
+    matches!(text, [b':', ..])
+}
+
+fn begins_digit(text: &[u8]) -> bool
+    ensures { result ≡ spec.begins is_ascii_digit text.now }
+{
+    match text {
+        [b, ..] => b.is_ascii_digit(),
+        [] => false,
+    }
+}
+
+fn is_small_number(text: &[u8]) -> bool
+    ensures { result ≡ spec.is_small_number text.now }
+{
+    small_number(text).is_some()
+}
+
+/// Whether the run may stand behind a `%` or `@`.
+fn is_name(run: &[u8]) -> bool
+    ensures { result ≡ spec.is_name run.now }
+{
+    is_small_number(run) || !begins_digit(run)
+}
+
+/// Whether the run may stand before the `:` of a label.
+pub fn is_label_name(run: &[u8]) -> bool
+    ensures { result ≡ spec.is_label_name run.now }
+{
+    is_small_number(run) || !is_digits(run)
+}
+
+/// Whether the run is digits, with at most one `-` before them.
+pub fn is_number(run: &[u8]) -> bool
+    ensures { result ≡ spec.is_number run.now }
+{
+    match run {
+        [] => false,
+        [first, rest @ ..] => is_digits(run) || (*first == b'-' && is_digits(rest)),
+    }
+}
+
+/// The bytes of the name at the front, a run or a quoted text, and 0 where there is none.
+#[tactic(auto, unfolding(ir_form::specs::Front::name_len))]
+pub fn name_len(text: &[u8]) -> usize
+    requires { length text.now < 2 ^ 62 }
+    ensures value { result ≡ spec.name_len text.now }
+    ensures within { result ≤ length text.now }
+{
+    if begins_quote(text) {
+        return quoted_len(text);
+    }
+    let len = Class::Run.prefix_len(text);
+    if is_name(&text[..len]) { len } else { 0 }
+}

@@ -1,0 +1,11 @@
+//! The verdict of each mutant on each test, and the score.
+#![tactic(auto)]
+
+mod letter;
+mod matrix;
+
+pub use letter::{Letter, same_outcome, verdict};
+pub use matrix::Matrix;
+
+#[cfg(test)]
+mod tests;

@@ -1,0 +1,6 @@
+//! Sets of mutant numbers.
+#![tactic(auto)]
+
+mod members;
+
+pub use members::Members;

@@ -1,0 +1,6 @@
+pub mod Opening
+pub mod StraightRuns
+pub mod Turns
+pub mod ExampleSound
+pub mod ExampleRows
+pub mod ExampleFits

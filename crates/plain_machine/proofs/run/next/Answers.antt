@@ -1,0 +1,19 @@
+use Rattle.std.proofs.Common.{ℕ, ◌<◌, length, sym, ap, ◌∙◌, subst}
+use Rattle.code_form.specs.declared.instr.Instr.{Instr}
+use Rattle.code_form.specs.Variant.{instr_of}
+use Rattle.change_set.proofs.Fits.{place_within}
+use Rattle.plain_machine.specs.Operands.{CanStep}
+use Rattle.plain_machine.proofs.StraightRuns.{variant_can_step}
+use Rattle.plain_machine.proofs.run.next.Goals as goal
+
+pub instr-requires-clause-within : goal.instr-requires-clause-within
+instr-requires-clause-within c =
+    let frame = c.requires.running.sound.running in
+    let P : ℕ → Type 0 = λ n. n < length c.args.code.now.instrs in
+    subst P (sym c.place-place.ensures) (place_within c.args.code.now frame.number frame.function c.args.s.now.running.place c.requires.sound frame.is frame.stands)
+
+pub step-requires-clause-operands : goal.step-requires-clause-operands
+step-requires-clause-operands c =
+    let P : Instr → Type 0 = CanStep c.args.s.now in
+    let is = c.instr.ensures ∙ ap (λ (n : ℕ). instr_of c.args.code.now c.args.variants.now n c.variant-v.result) c.place-place.ensures in
+    subst P (sym is) (variant_can_step c.args.code.now c.args.variants.now c.requires.sound c.requires.table c.requires.straight c.args.s.now c.requires.running c.variant-v.result)

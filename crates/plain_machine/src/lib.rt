@@ -1,0 +1,12 @@
+//! One mutant by itself, on a flat memory of 1,048,576 bytes.
+#![tactic(auto)]
+
+mod apply;
+mod run;
+mod start;
+mod state;
+mod step;
+#[cfg(test)]
+mod tests;
+
+pub use run::{Alone, run_alone};

@@ -1,0 +1,87 @@
+//! The state in which the run of a case begins.
+ghost use Rattle.std.specs.Prelude.{◌≡◌, ◌<◌, ◌≤◌, ◌-◌, ◌++◌, length, IfOk, replicate, None, Some, slice_get, unwrap_or};
+ghost use Rattle.code_form.specs.Places.{no_block};
+ghost use Rattle.code_form.specs.Sound.{IsSound};
+ghost use Rattle.code_form.specs.Fit.{FitsCase};
+ghost use Rattle.change_set.specs.State.{with_writes};
+ghost use Rattle.change_set.specs.Calls.{numbered};
+ghost use Rattle.change_set.specs.Start.{opening_frame, start_of, zeros};
+
+use crate::state::FlatState;
+use am_base::OutOfMemory;
+use am_lists::Items;
+use change_set::Frame;
+use code_form::{Case, Code, Func};
+use std::alloc::Global;
+
+/// The 1,048,576 bytes of memory: the opening ones, and zeros.
+fn opening_bytes(alloc: Global, memory: &[u8]) -> Result<Vec<u8>, OutOfMemory>
+    requires { length memory.now ≤ 1048576 }
+    ensures { IfOk result (λ bytes. bytes.items ≡ memory.now ++ zeros (1048576 - length memory.now)) }
+{
+    let mut bytes = Vec::from_slice(alloc, memory)?;
+    bytes.resize(1_048_576, 0)?;
+    Ok(bytes)
+}
+
+/// That many registers, of which the first hold the arguments.
+fn opening_registers(
+    alloc: Global,
+    registers: u32,
+    args: &[u64],
+) -> Result<Items<Option<u64>>, OutOfMemory>
+    requires { length args.now ≤ registers }
+    ensures { IfOk result (λ r. r ≡ with_writes (replicate registers None) (numbered 0 args.now)) }
+{
+    let mut all = vec![in alloc; None; registers as usize]?;
+    for (i, word) in args.iter().enumerate() {
+        all[i] = Some(*word);
+    }
+    Ok(Items::from_vec(all))
+}
+
+/// The function that a case runs.
+fn function_of_case<'a>(code: &'a Code, case: &Case) -> &'a Func
+    requires { case.now.function < length code.now.funcs }
+    ensures { slice_get code.now.funcs case.now.function ≡ Some result.now }
+{
+    &code.funcs.as_slice()[case.function as usize]
+}
+
+/// The first place of a function.
+fn first_place(f: &Func) -> u32
+    requires { 0 < length f.now.blocks }
+    ensures { result ≡ (unwrap_or (slice_get f.now.blocks 0) no_block).first }
+{
+    f.blocks.as_slice()[0].first
+}
+
+/// The frame in which the run of a case begins.
+fn first_frame(alloc: Global, code: &Code, case: &Case) -> Result<Frame, OutOfMemory>
+    requires sound { IsSound code.now }
+    requires case { FitsCase code.now case.now }
+    ensures { IfOk result (λ frame. frame ≡ opening_frame code.now case.now) }
+{
+    let f = function_of_case(code, case);
+    let registers = opening_registers(alloc, f.registers, case.args.as_slice())?;
+    Ok(Frame {
+        place: first_place(f),
+        registers,
+        result: None,
+        restores: code.stack_base,
+    })
+}
+
+impl FlatState {
+    /// The state in which the run of a case begins.
+    pub fn start(alloc: Global, code: &Code, case: &Case) -> Result<FlatState, OutOfMemory>
+        requires sound { IsSound code.now }
+        requires case { FitsCase code.now case.now }
+        ensures { IfOk result (λ s. s ≡ start_of code.now case.now) }
+    {
+        let running = first_frame(alloc, code, case)?;
+        let bytes = opening_bytes(alloc, code.memory.as_slice())?;
+        let input = case.input.copy(alloc)?;
+        Ok(FlatState::opening(alloc, running, bytes, code.stack_base, input))
+    }
+}

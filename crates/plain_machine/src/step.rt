@@ -1,0 +1,191 @@
+//! The change of each instruction.
+ghost use Rattle.std.specs.Prelude.{◌≡◌, [], IfOk, Some};
+ghost use Rattle.change_set.specs.Straight.{write_of, end_change, trap_change, word_change};
+ghost use Rattle.change_set.specs.Next.{bin_change, cmp_change, select_change, cast_change, freeze_change, ret_change, next_of};
+ghost use Rattle.plain_machine.specs.Operands.{HoldsWord, CanStep};
+ghost use Rattle.plain_machine.specs.Ports.{no_answers};
+
+use crate::state::FlatState;
+use am_base::{BinOp, Cast, Ending, OutOfMemory, Pred, Trap, Width, binary, compare, convert};
+use change_set::{ByteWrites, Change, Control, RegisterWrites};
+use code_form::{Code, Instr, Operand};
+use std::alloc::Global;
+
+/// The write of a word, where the instruction has a register for it.
+fn write(alloc: Global, r: Option<u32>, word: u64) -> Result<RegisterWrites, OutOfMemory>
+    ensures { IfOk result (λ writes. writes ≡ write_of r word) }
+{
+    let mut writes = RegisterWrites::new(alloc);
+    if let Some(r) = r {
+        writes.push(r, word)?;
+    }
+    Ok(writes)
+}
+
+/// The instruction has this word, and the run goes on at the next place.
+fn gives(alloc: Global, s: &FlatState, r: Option<u32>, word: u64) -> Result<Change, OutOfMemory>
+    ensures { IfOk result (λ c. c ≡ word_change s.now r word) }
+{
+    Ok(Change {
+        writes: write(alloc, r, word)?,
+        bytes: ByteWrites::new(alloc),
+        top: s.top(),
+        put: None,
+        took: false,
+        control: Control::Next,
+    })
+}
+
+/// The run ends, and nothing else changes.
+fn ends(alloc: Global, s: &FlatState, ending: Ending) -> Change
+    ensures { result ≡ end_change s.now ending }
+{
+    Change {
+        writes: RegisterWrites::new(alloc),
+        bytes: ByteWrites::new(alloc),
+        top: s.top(),
+        put: None,
+        took: false,
+        control: Control::End(ending),
+    }
+}
+
+fn traps(alloc: Global, s: &FlatState, trap: Trap) -> Change
+    ensures { result ≡ trap_change s.now trap }
+{
+    ends(alloc, s, Ending::Trap(trap))
+}
+
+fn bin(
+    alloc: Global,
+    s: &FlatState,
+    r: Option<u32>,
+    op: BinOp,
+    w: Width,
+    a: Operand,
+    b: Operand,
+) -> Result<Change, OutOfMemory>
+    requires left { HoldsWord s.now w a }
+    requires right { HoldsWord s.now w b }
+    ensures { IfOk result (λ c. c ≡ bin_change s.now r op w a b) }
+{
+    let Some(x) = s.value(a) else {
+        return Ok(traps(alloc, s, Trap::UnsetRegister));
+    };
+    let Some(y) = s.value(b) else {
+        return Ok(traps(alloc, s, Trap::UnsetRegister));
+    };
+    match binary(op, w, x, y) {
+        Ok(word) => gives(alloc, s, r, word),
+        Err(trap) => Ok(traps(alloc, s, trap)),
+    }
+}
+
+fn cmp(
+    alloc: Global,
+    s: &FlatState,
+    r: Option<u32>,
+    p: Pred,
+    w: Width,
+    a: Operand,
+    b: Operand,
+) -> Result<Change, OutOfMemory>
+    requires left { HoldsWord s.now w a }
+    requires right { HoldsWord s.now w b }
+    ensures { IfOk result (λ c. c ≡ cmp_change s.now r p w a b) }
+{
+    let Some(x) = s.value(a) else {
+        return Ok(traps(alloc, s, Trap::UnsetRegister));
+    };
+    let Some(y) = s.value(b) else {
+        return Ok(traps(alloc, s, Trap::UnsetRegister));
+    };
+    gives(alloc, s, r, if compare(p, w, x, y) { 1 } else { 0 })
+}
+
+fn select(
+    alloc: Global,
+    s: &FlatState,
+    r: Option<u32>,
+    c: Operand,
+    a: Operand,
+    b: Operand,
+) -> Result<Change, OutOfMemory>
+    ensures { IfOk result (λ change. change ≡ select_change s.now r c a b) }
+{
+    let Some(k) = s.value(c) else {
+        return Ok(traps(alloc, s, Trap::UnsetRegister));
+    };
+    let Some(x) = s.value(a) else {
+        return Ok(traps(alloc, s, Trap::UnsetRegister));
+    };
+    let Some(y) = s.value(b) else {
+        return Ok(traps(alloc, s, Trap::UnsetRegister));
+    };
+    gives(alloc, s, r, if k == 1 { x } else { y })
+}
+
+fn cast(
+    alloc: Global,
+    s: &FlatState,
+    r: Option<u32>,
+    c: Cast,
+    from: Width,
+    to: Width,
+    a: Operand,
+) -> Result<Change, OutOfMemory>
+    requires { HoldsWord s.now from a }
+    ensures { IfOk result (λ change. change ≡ cast_change s.now r c from to a) }
+{
+    let Some(x) = s.value(a) else {
+        return Ok(traps(alloc, s, Trap::UnsetRegister));
+    };
+    gives(alloc, s, r, convert(c, from, to, x))
+}
+
+fn freeze(alloc: Global, s: &FlatState, r: Option<u32>, a: Operand) -> Result<Change, OutOfMemory>
+    ensures { IfOk result (λ c. c ≡ freeze_change s.now r a) }
+{
+    let Some(x) = s.value(a) else {
+        return Ok(traps(alloc, s, Trap::UnsetRegister));
+    };
+    gives(alloc, s, r, x)
+}
+
+/// A return from the first frame, which ends the run.
+fn ret(alloc: Global, s: &FlatState, a: Option<Operand>) -> Change
+    requires { s.now.callers ≡ [] }
+    ensures { result ≡ ret_change s.now a }
+{
+    let Some(a) = a else {
+        return ends(alloc, s, Ending::Return(None));
+    };
+    let Some(x) = s.value(a) else {
+        return traps(alloc, s, Trap::UnsetRegister);
+    };
+    ends(alloc, s, Ending::Return(Some(x)))
+}
+
+/// The change that an instruction makes. `r` is the register of its place.
+pub fn step(
+    alloc: Global,
+    code: &Code,
+    s: &FlatState,
+    r: Option<u32>,
+    i: &Instr,
+) -> Result<Change, OutOfMemory>
+    requires operands { CanStep s.now i.now }
+    requires first { s.now.callers ≡ [] }
+    ensures { IfOk result (λ change. change ≡ next_of code.now no_answers s.now r i.now) }
+{
+    match i {
+        Instr::Bin(op, w, a, b) => bin(alloc, s, r, *op, *w, *a, *b),
+        Instr::Cmp(p, w, a, b) => cmp(alloc, s, r, *p, *w, *a, *b),
+        Instr::Select(c, a, b) => select(alloc, s, r, *c, *a, *b),
+        Instr::Cast(c, from, to, a) => cast(alloc, s, r, *c, *from, *to, *a),
+        Instr::Freeze(a) => freeze(alloc, s, r, *a),
+        Instr::Ret(a) => Ok(ret(alloc, s, *a)),
+        Instr::Unreachable => Ok(traps(alloc, s, Trap::Unreachable)),
+        _ => unreachable!(),
+    }
+}

@@ -1,0 +1,15 @@
+pub mod Bools
+pub mod Lists
+pub mod Below
+pub mod Trace
+pub mod Together
+pub mod Turns
+pub mod Cost
+pub mod Steps
+pub mod Permutations
+pub mod Prefixes
+pub mod TurnCounts
+pub mod Plans
+pub mod Room
+pub mod Ends
+pub mod Splits

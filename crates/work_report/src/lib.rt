@@ -1,0 +1,9 @@
+//! The text of a report.
+#![tactic(auto)]
+
+mod lines;
+
+pub use lines::report;
+
+#[cfg(test)]
+mod tests;
