@@ -1,5 +1,5 @@
 -- The instruction that a variant has at a place fits its function.
-use Rattle.std.proofs.Common.{◌≡◌, ℕ, zero, suc, ◌+◌, ◌-◌, ◌<◌, ◌≤◌, true, false, List, [], ◌∷◌, ◌++◌, length, Option, Some, None, slice_get, arith, sym, ◌∙◌, ap, refl, subst}
+use Rattle.std.proofs.Common.{◌≡◌, ℕ, zero, suc, ◌+◌, ◌-◌, ◌<◌, ◌≤◌, Bool, true, false, List, [], ◌∷◌, ◌++◌, length, Option, Some, None, slice_get, arith, sym, ◌∙◌, ap, refl, subst}
 use Rattle.std.specs.Prelude.{slice_set, unwrap_or, flat_map}
 use Rattle.code_form.specs.declared.instr.Operand.{Operand}
 use Rattle.code_form.specs.declared.instr.Callee.{Callee}
@@ -10,7 +10,7 @@ use Rattle.code_form.specs.declared.code.TyScalar.{TyScalar}
 use Rattle.code_form.specs.declared.code.Block.{Block}
 use Rattle.code_form.specs.declared.code.Func.{Func}
 use Rattle.code_form.specs.declared.code.Code.{Code}
-use Rattle.code_form.specs.Places.{instr_at, result_at, is_terminator}
+use Rattle.code_form.specs.Places.{instr_at, result_at, is_phi, is_terminator}
 use Rattle.code_form.specs.Sound.{IsSound, IsPlaceOf, InstrFits, CallFits, AreLaid}
 use Rattle.code_form.specs.Variant.{Table, replacements_at, instr_of}
 use Rattle.code_form.specs.Fit.{FitsPlace, FitsTable, with_instr}
@@ -56,17 +56,36 @@ original_fits code g f at sound is p =
     let e : p.block.first + (at - p.block.first) ≡ at = omega (arith, p.from) in
     subst P e (((sound.funcs g f is).blocks p.number p.block p.is).fits (at - p.block.first) (omega (arith, p.from, p.below)))
 
-pub stands_next : (code : Code) (g : ℕ) (f : Func) (at : ℕ) → IsSound code → slice_get code.funcs g ≡ Some f → IsPlaceOf f at → is_terminator (instr_at code at) ≡ false → IsPlaceOf f (at + 1)
-stands_next code g f at sound is p e =
-    let i = at - p.block.first in
+-- an instruction that isn't a terminator isn't the last one of its block
+inside_block : (code : Code) (g : ℕ) (f : Func) (at : ℕ) → IsSound code → slice_get code.funcs g ≡ Some f → (p : IsPlaceOf f at) → is_terminator (instr_at code at) ≡ false → at + 1 < p.block.first + p.block.len
+inside_block code g f at sound is p e =
     let same : p.block.first + (at - p.block.first) ≡ at = omega (arith, p.from) in
     let at_same : is_terminator (instr_at code (p.block.first + (at - p.block.first))) ≡ false = ap (λ n. is_terminator (instr_at code n)) same ∙ e in
     let inner = ((sound.funcs g f is).blocks p.number p.block p.is).ends (at - p.block.first) (omega (arith, p.from, p.below)) in
     let not_last : at - p.block.first + 1 ≡ p.block.len → ⊥ = λ last. true_false (sym (inner.1 last) ∙ at_same) in
-    record { block = p.block; number = p.number; is = p.is; from = omega (arith, p.from); below = omega (arith, p.from, p.below, not_last) }
+    omega (arith, p.from, p.below, not_last)
   where
     true_false : true ≡ false → ⊥
     true_false e = cc
+
+pub stands_next : (code : Code) (g : ℕ) (f : Func) (at : ℕ) → IsSound code → slice_get code.funcs g ≡ Some f → IsPlaceOf f at → is_terminator (instr_at code at) ≡ false → IsPlaceOf f (at + 1)
+stands_next code g f at sound is p e =
+    let within = inside_block code g f at sound is p e in
+    record { block = p.block; number = p.number; is = p.is; from = omega (arith, p.from); below = omega (arith, within) }
+
+-- no `phi` follows an instruction that isn't one
+pub no_phi_next : (code : Code) (g : ℕ) (f : Func) (at : ℕ) → IsSound code → slice_get code.funcs g ≡ Some f → IsPlaceOf f at → is_terminator (instr_at code at) ≡ false
+    → is_phi (instr_at code at) ≡ false → is_phi (instr_at code (at + 1)) ≡ false
+no_phi_next code g f at sound is p e no_phi =
+    let within = inside_block code g f at sound is p e in
+    let first : p.block.first + (at - p.block.first) ≡ at = omega (arith, p.from) in
+    let second : p.block.first + (at - p.block.first) + 1 ≡ at + 1 = omega (arith, p.from) in
+    let front = ((sound.funcs g f is).blocks p.number p.block p.is).phis_first (at - p.block.first) (omega (arith, p.from, within)) in
+    by (is_phi (instr_at code (at + 1))) refl (λ h. sym (ap (λ n. is_phi (instr_at code n)) first) ∙ front (ap (λ n. is_phi (instr_at code n)) second ∙ h))
+  where
+    by : (b : Bool) → is_phi (instr_at code (at + 1)) ≡ b → (is_phi (instr_at code (at + 1)) ≡ true → is_phi (instr_at code at) ≡ true) → is_phi (instr_at code (at + 1)) ≡ false
+    by false h back = h
+    by true h back = let t = back h in cc
 
 module _ (code : Code) (table : Table) (sound : IsSound code) (fits : FitsTable code table) (g : ℕ) (f : Func) (at : ℕ) (is : slice_get code.funcs g ≡ Some f) (p : IsPlaceOf f at) where
   replaced_fits : (i : Instr) → FitsPlace code at i → InstrFits code f (result_at code at) i
@@ -95,13 +114,16 @@ module _ (code : Code) (table : Table) (sound : IsSound code) (fits : FitsTable 
   pub variant_goes_on : (v : ℕ) → is_terminator (instr_of code table at v) ≡ false → IsPlaceOf f (at + 1)
   variant_goes_on v e = stands_next code g f at sound is p (sym (variant_terminates v) ∙ e)
 
+  pub variant_no_phi : (v : ℕ) → is_terminator (instr_of code table at v) ≡ false → is_phi (instr_at code at) ≡ false → is_phi (instr_at code (at + 1)) ≡ false
+  variant_no_phi v e no_phi = no_phi_next code g f at sound is p (sym (variant_terminates v) ∙ e) no_phi
+
 -- ---- places of a function are places of the code
 
-laid-le : (from : ℕ) (blocks : List Block) (to : ℕ) → AreLaid from blocks to → from ≤ to
+pub laid-le : (from : ℕ) (blocks : List Block) (to : ℕ) → AreLaid from blocks to → from ≤ to
 laid-le from [] to h = omega (arith, h)
 laid-le from (b ∷ blocks) to h = let rest = laid-le (from + b.len) blocks to h.1 in omega arith
 
-laid_front : (from : ℕ) (blocks more : List Block) (to : ℕ) → AreLaid from (blocks ++ more) to → (middle : ℕ) × AreLaid from blocks middle × AreLaid middle more to
+pub laid_front : (from : ℕ) (blocks more : List Block) (to : ℕ) → AreLaid from (blocks ++ more) to → (middle : ℕ) × AreLaid from blocks middle × AreLaid middle more to
 laid_front from [] more to h = (from, refl, h)
 laid_front from (b ∷ blocks) more to h = let rest = laid_front (from + b.len) blocks more to h.1 in (rest.0, (h.0, rest.1), rest.2)
 
@@ -114,7 +136,7 @@ laid_block from (b ∷ blocks) to zero block h e =
     subst P same (omega (arith, h.0))
 laid_block from (b ∷ blocks) to (suc n) block h e = laid_block (from + b.len) blocks to n block h.1 e
 
-laid_function : (from : ℕ) (funcs : List Func) (to g n : ℕ) (f : Func) (block : Block) → AreLaid from (flat_map (λ (f : Func). f.blocks) funcs) to
+pub laid_function : (from : ℕ) (funcs : List Func) (to g n : ℕ) (f : Func) (block : Block) → AreLaid from (flat_map (λ (f : Func). f.blocks) funcs) to
     → slice_get funcs g ≡ Some f → slice_get f.blocks n ≡ Some block → block.first + block.len ≤ to
 laid_function from [] to g n f block h e d = cc
 laid_function from (k ∷ funcs) to zero n f block h e d =

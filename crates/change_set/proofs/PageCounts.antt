@@ -4,19 +4,13 @@ use Rattle.std.proofs.lemmas.Bool.Decides.{nat_tests}
 use Rattle.std.specs.List.Sorted.{IsStrictlyIncreasing}
 use Rattle.std.specs.Set.{is_member}
 use Rattle.change_set.specs.Pages.{page_of, pages_of}
+use Rattle.change_set.proofs.Rises.{rest_rises}
 
 abbrev addresses : List (ℕ × ℕ) → List ℕ
 addresses bytes = map (λ b. b.0) bytes
 
 abbrev pages_in : List (ℕ × ℕ) → List ℕ
 pages_in bytes = map (λ b. page_of b.0) bytes
-
--- the rest of rising numbers rises
-rest_rises : (x : ℕ) (xs : List ℕ) → IsStrictlyIncreasing (x ∷ xs) → IsStrictlyIncreasing xs
-rest_rises x xs r k h =
-    let P : ℕ → Type 0 = λ n. get_or xs k 0 < get_or (x ∷ xs) n 0 in
-    let e : suc k + 1 ≡ suc (k + 1) = omega arith in
-    subst P e (r (suc k) (omega arith))
 
 -- no later address lies in a page below the first one's
 absent_below : (p : ℕ) (b : ℕ × ℕ) (bytes : List (ℕ × ℕ)) → IsStrictlyIncreasing (addresses (b ∷ bytes)) → p < page_of b.0

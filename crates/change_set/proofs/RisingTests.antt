@@ -4,17 +4,11 @@ use Rattle.std.specs.Prelude.{nat_lt}
 use Rattle.std.specs.List.Sorted.{IsStrictlyIncreasing}
 use Rattle.std.proofs.lemmas.Bool.Decides.{nat_tests}
 use Rattle.change_set.specs.Rising.{is_rising}
+use Rattle.change_set.proofs.Rises.{first_below}
 
 both : (a b : Bool) → IsTrue (a && b) → (a ≡ true) × IsTrue b
 both true b t = (refl, t)
 both false b t = cc
-
-first_below : (x y : ℕ) (xs : List ℕ) → x < y → IsStrictlyIncreasing (y ∷ xs) → IsStrictlyIncreasing (x ∷ y ∷ xs)
-first_below x y xs l r zero h = l
-first_below x y xs l r (suc k) h =
-    let P : ℕ → Type 0 = λ n. get_or (y ∷ xs) k 0 < get_or (x ∷ y ∷ xs) n 0 in
-    let e : suc (k + 1) ≡ suc k + 1 = omega arith in
-    subst P e (r k (omega arith))
 
 pub IsStrictlyIncreasing-is_rising : (bytes : List (ℕ × ℕ)) → IsTrue (is_rising bytes) → IsStrictlyIncreasing (map (λ b. b.0) bytes)
 IsStrictlyIncreasing-is_rising [] t = λ k h. absurd (omega arith)

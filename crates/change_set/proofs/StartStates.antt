@@ -1,7 +1,6 @@
 -- The state in which a case begins is sound.
-use Rattle.std.proofs.Common.{◌≡◌, ℕ, zero, suc, ◌+◌, ◌≤◌, ◌<◌, List, [], ◌∷◌, length, take, set, replicate, get_or, Option, Some, None, slice_get, arith, sym, ◌∙◌, ap, refl, subst}
-use Rattle.std.specs.Prelude.{unwrap_or}
-use Rattle.std.proofs.Math.ListN.{length-set}
+use Rattle.std.proofs.Common.{◌≡◌, ℕ, zero, suc, ◌+◌, ◌-◌, ◌≤◌, ◌<◌, false, List, [], ◌∷◌, length, length-append, take, set, replicate, get_or, Option, Some, None, slice_get, arith, sym, ◌∙◌, ap, refl, subst}
+use Rattle.std.specs.Prelude.{unwrap_or, All}
 use Rattle.std.proofs.lemmas.List.{length-replicate}
 use Rattle.std.proofs.lemmas.Option.{slice_get-get_or}
 use Rattle.am_base.specs.Word.{IsWord}
@@ -11,14 +10,15 @@ use Rattle.code_form.specs.declared.code.Block.{Block}
 use Rattle.code_form.specs.declared.code.Func.{Func}
 use Rattle.code_form.specs.declared.code.Code.{Code}
 use Rattle.code_form.specs.declared.case.Case.{Case}
-use Rattle.code_form.specs.Places.{no_function, no_block, function_at}
+use Rattle.code_form.specs.Places.{no_function, no_block, function_at, begins_at, instr_at, is_phi}
 use Rattle.code_form.specs.Sound.{IsSound, IsPlaceOf, width_of}
 use Rattle.code_form.specs.Fit.{FitsCase, AreArguments}
 use Rattle.change_set.specs.State.{register, with_writes}
 use Rattle.change_set.specs.Calls.{numbered}
-use Rattle.change_set.specs.Start.{start_of}
-use Rattle.change_set.specs.SoundState.{IsSoundState}
-use Rattle.change_set.proofs.SoundStates.{AreTyped, write_keeps_types}
+use Rattle.change_set.specs.Start.{zeros, opening_frame, opening_bytes, start_of}
+use Rattle.change_set.specs.StepLaw.{BeginsSound}
+use Rattle.change_set.specs.SoundState.{AreTyped, IsFrameOf, IsSoundState}
+use Rattle.change_set.proofs.SoundStates.{write_keeps_types, length-with_writes}
 
 pub function_at-is : (code : Code) (n : ℕ) (f : Func) → slice_get code.funcs n ≡ Some f → function_at code n ≡ f
 function_at-is code n f e = ap (λ o. unwrap_or o no_function) e
@@ -40,7 +40,7 @@ length-arguments (t ∷ params) [] h = absurd h
 length-arguments (Ptr ∷ params) (n ∷ args) h = absurd h
 length-arguments (Int w ∷ params) (n ∷ args) h = ap suc (length-arguments params args h.1)
 
-length-front : {X : Type 0} (k : ℕ) (xs : List X) → length (take k xs) ≤ length xs
+pub length-front : {X : Type 0} (k : ℕ) (xs : List X) → length (take k xs) ≤ length xs
 length-front zero xs = omega arith
 length-front (suc k) [] = omega arith
 length-front (suc k) (x ∷ xs) = let rest = length-front k xs in omega arith
@@ -55,10 +55,6 @@ arguments_fit code case f sound fits is =
     omega (arith, args, front, ap length inner.params, inner.typed)
 
 -- ---- the registers
-
-length-with_writes : (registers : List (Option ℕ)) (ws : List (ℕ × ℕ)) → length (with_writes registers ws) ≡ length registers
-length-with_writes registers [] = refl
-length-with_writes registers (w ∷ ws) = length-with_writes (set registers w.0 (Some w.1)) ws ∙ length-set registers w.0 (Some w.1)
 
 abbrev no_word : Option ℕ
 no_word = None
@@ -102,22 +98,69 @@ first_place f block e l =
     let P : Block → Type 0 = λ b. IsPlaceOf f b.first in
     subst P same (record { block = block; number = 0; is = e; from = omega arith; below = omega arith })
 
+first_no_phi : (code : Code) (f : Func) (block : Block) → slice_get f.blocks 0 ≡ Some block → is_phi (instr_at code block.first) ≡ false
+    → is_phi (instr_at code (unwrap_or (slice_get f.blocks 0) no_block).first) ≡ false
+first_no_phi code f block e h =
+    let same : block ≡ unwrap_or (slice_get f.blocks 0) no_block = sym (ap (λ o. unwrap_or o no_block) e) in
+    let P : Block → Type 0 = λ b. is_phi (instr_at code b.first) ≡ false in
+    subst P same h
+
 first_of : (blocks : List Block) → 0 < length blocks → (block : Block) × (slice_get blocks 0 ≡ Some block)
 first_of [] l = absurd (omega arith)
 first_of (b ∷ blocks) l = (b, refl)
 
-pub start_sound : (code : Code) (case : Case) (f : Func) → IsSound code → FitsCase code case → slice_get code.funcs case.function ≡ Some f → IsSoundState code (start_of code case)
-start_sound code case f sound fits is =
-    let inner = sound.funcs case.function f is in
-    let same : f ≡ function_at code case.function = sym (function_at-is code case.function f is) in
+-- the frame in which a function begins, with words of the types of its first registers
+pub begun_frame : (code : Code) (g : ℕ) (f : Func) (args : List ℕ) (result : Option ℕ) (restores : ℕ) → IsSound code → slice_get code.funcs g ≡ Some f
+    → ((i x : ℕ) (t : TyScalar) → slice_get args i ≡ Some x → slice_get f.types i ≡ Some t → IsWord (width_of t) x)
+    → IsFrameOf code g f (record { place = begins_at code g; registers = with_writes (replicate (function_at code g).registers None) (numbered 0 args); result = result; restores = restores })
+begun_frame code g f args result restores sound is words =
+    let inner = sound.funcs g f is in
+    let same : f ≡ function_at code g = sym (function_at-is code g f is) in
     let block = first_of f.blocks inner.some in
-    let stands : IsPlaceOf f (unwrap_or (slice_get f.blocks 0) no_block).first = first_place f block.0 block.1 (inner.blocks 0 block.0 block.1).some in
-    let Stands : Func → Type 0 = λ g. IsPlaceOf f (unwrap_or (slice_get g.blocks 0) no_block).first in
+    let Stands : Func → Type 0 = λ h. IsPlaceOf f (unwrap_or (slice_get h.blocks 0) no_block).first in
+    let Begins : Func → Type 0 = λ h. is_phi (instr_at code (unwrap_or (slice_get h.blocks 0) no_block).first) ≡ false in
+    let Length : Func → Type 0 = λ h. length (with_writes (replicate h.registers None) (numbered 0 args)) ≡ f.registers in
+    let Typed : Func → Type 0 = λ h. AreTyped f.types (with_writes (replicate h.registers None) (numbered 0 args)) in
+    let stands : Stands f = first_place f block.0 block.1 (inner.blocks 0 block.0 block.1).some in
+    let begins : Begins f = first_no_phi code f block.0 block.1 ((inner.blocks 0 block.0 block.1).no_entry_phi refl) in
+    let long : Length f = length-with_writes (replicate f.registers None) (numbered 0 args) ∙ length-replicate f.registers no_word in
+    let typed : Typed f = arguments_typed f.types args (replicate f.registers None) 0 (λ r x t a e. absurd (unset f.registers r x e))
+    (λ i x t a b. words i x t a (let e : 0 + i ≡ i = omega arith in let P : ℕ → Type 0 = λ n. slice_get f.types n ≡ Some t in subst P e b)) in
+    record { is = is; stands = subst Stands same stands; no_phi = subst Begins same begins; registers = subst Length same long; words = subst Typed same typed }
+
+length-zeros : (n : ℕ) → length (zeros n) ≡ n
+unfolding zeros
+length-zeros n = length-replicate n 0
+
+-- the opening bytes are 1,048,576
+opening_length : (code : Code) → IsSound code → length (opening_bytes code) ≡ 1048576
+opening_length code sound =
+    omega (arith, length-append code.memory (zeros (1048576 - length code.memory)), length-zeros (1048576 - length code.memory), sound.memory, sound.base)
+
+-- the state is sound where the opening bytes are bytes
+pub start_sound : (code : Code) (case : Case) (f : Func) → IsSound code → FitsCase code case → slice_get code.funcs case.function ≡ Some f → All (λ b. b < 256) (opening_bytes code)
+    → IsSoundState code (start_of code case)
+start_sound code case f sound fits is small =
+    let inner = sound.funcs case.function f is in
     let Args : Func → Type 0 = λ g. AreArguments g.params case.args in
-    let Length : Func → Type 0 = λ g. length (with_writes (replicate g.registers None) (numbered 0 case.args)) ≡ f.registers in
-    let Typed : Func → Type 0 = λ g. AreTyped f.types (with_writes (replicate g.registers None) (numbered 0 case.args)) in
-    let args : AreArguments f.params case.args = subst Args (sym same) fits.args in
-    let long : Length f = length-with_writes (replicate f.registers None) (numbered 0 case.args) ∙ length-replicate f.registers no_word in
-    let typed : Typed f = arguments_typed f.types case.args (replicate f.registers None) 0 (λ r x t a e. absurd (unset f.registers r x e))
-    (λ i x t a b. argument_word f.params f.types case.args inner.params args i x t a (let e : 0 + i ≡ i = omega arith in let P : ℕ → Type 0 = λ n. slice_get f.types n ≡ Some t in subst P e b)) in
-    record { running = record { number = case.function; function = f; is = is; stands = subst Stands same stands; registers = subst Length same long; words = subst Typed same typed } }
+    let args : AreArguments f.params case.args = subst Args (function_at-is code case.function f is) fits.args in
+    let frame : IsFrameOf code case.function f (opening_frame code case) =
+    begun_frame code case.function f case.args None code.stack_base sound is (argument_word f.params f.types case.args inner.params args) in
+    record {
+      number = case.function;
+      function = f;
+      running = frame;
+      callers = omega arith;
+      restores = omega arith;
+      top = omega (arith, sound.base);
+      memory = opening_length code sound;
+      bytes = small;
+      frames = omega arith;
+      words = omega (arith, frame.registers, inner.few);
+      output = omega arith;
+      input = fits.input;
+      position = omega arith;
+    }
+
+pub states_begin : BeginsSound
+states_begin code case sound fits small = start_sound code case (function_at code case.function) sound fits (defined_at code case.function fits.defined) small

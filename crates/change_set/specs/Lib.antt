@@ -9,4 +9,6 @@ pub mod Start
 pub mod Same
 pub mod Machine
 pub mod SoundState
+pub mod StepLaw
 pub mod Rising
+pub mod EqualChanges

@@ -94,7 +94,6 @@ fn is_last_of_page(bytes: &[(u32, u8)], i: usize) -> bool
 
 /// The number of different pages of 1,024 bytes in which the bytes of a change lie.
 pub fn pages(c: &Change) -> u64
-    requires { IsStrictlyIncreasing (map (λ b. b.0) c.now.bytes) }
     ensures { result ≡ pages_of c.now.bytes }
 {
     let bytes = c.bytes.as_slice();

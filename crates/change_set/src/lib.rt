@@ -11,5 +11,5 @@ mod writes;
 
 pub use change::{Change, Control, pages, same};
 pub use frame::Frame;
-pub use law::changes_compared;
+pub use law::{changes_compared, changes_determined, states_kept};
 pub use writes::{ByteWrites, RegisterWrites};

@@ -17,6 +17,7 @@ fn register_writes(alloc: Global, pairs: &[(u32, u64)]) -> Result<RegisterWrites
 }
 
 fn byte_writes(alloc: Global, pairs: &[(u32, u8)]) -> Result<ByteWrites, OutOfMemory>
+    requires { IsTrue (is_rising pairs.now) }
     ensures { IfOk result (λ writes. writes ≡ pairs.now) }
 {
     let mut writes = ByteWrites::new(alloc);
@@ -32,7 +33,7 @@ fn change(
     registers: &[(u32, u64)],
     bytes: &[(u32, u8)],
 ) -> Result<Change, OutOfMemory>
-    ensures { IfOk result (λ c. c.bytes ≡ bytes.now) }
+    requires { IsTrue (is_rising bytes.now) }
 {
     Ok(Change {
         writes: register_writes(alloc, registers)?,

@@ -1,4 +1,5 @@
-ghost use Rattle.std.specs.Prelude.{◌≡◌, [], ◌∷◌, ◌++◌, OnOk, OnErr};
+ghost use Rattle.std.specs.Prelude.{◌≡◌, ◌<◌, [], ◌∷◌, ◌++◌, map, All, OnOk, OnErr};
+ghost use Rattle.std.specs.List.Sorted.{IsStrictlyIncreasing};
 
 use am_base::OutOfMemory;
 use smallvec::SmallVec;
@@ -46,19 +47,22 @@ impl RegisterWrites {
     }
 }
 
-/// The addresses whose bytes a change really changes, with their new bytes, which machines put in rising order. Contracts see the list of the pairs. Up to eight
-/// are kept without memory.
+/// The addresses whose bytes a change really changes, with their new bytes, in rising order of the addresses. Contracts see the list of the pairs. Up to
+/// eight are kept without memory.
 #[derive(Debug, Drop)]
 pub struct ByteWrites {
     pairs: SmallVec<(u32, u8), 8>,
 }
 
 impl Model for ByteWrites {
-    ghost use Rattle.std.specs.Prelude.{List, ℕ};
+    ghost use Rattle.std.specs.Prelude.{List, ℕ, map};
+    ghost use Rattle.std.specs.List.Sorted.{IsStrictlyIncreasing};
 
     ghost Value = { List (ℕ × ℕ) };
 
     ghost view = { λ w. w.pairs.items };
+
+    ghost invariant = { λ w. IsStrictlyIncreasing (map (λ b. b.0) w.pairs.items) };
 }
 
 impl ByteWrites {
@@ -71,15 +75,17 @@ impl ByteWrites {
         }
     }
 
-    /// The pairs of an address and its byte.
+    /// The pairs of an address and its byte, by rising address.
     pub fn as_slice(&self) -> &[(u32, u8)]
-        ensures { result.now ≡ self.now }
+        ensures pairs { result.now ≡ self.now }
+        ensures rising { IsStrictlyIncreasing (map (λ b. b.0) result.now) }
     {
         self.pairs.as_slice()
     }
 
-    /// Puts a write at the end. It is refused only for want of memory, and then the list is as it was.
+    /// Puts a write at the end, at an address above all others. It is refused only for want of memory, and then the list is as it was.
     pub fn push(&mut self, address: u32, byte: u8) -> Result<(), OutOfMemory>
+        requires above { All (λ b. b.0 < address) self.old }
         ensures ok { OnOk result (self.new ≡ self.old ++ (address, byte) ∷ []) }
         ensures err { OnErr result (self.new ≡ self.old) }
     {

@@ -4,3 +4,5 @@ pub mod Turns
 pub mod ExampleSound
 pub mod ExampleRows
 pub mod ExampleFits
+pub mod Numbers
+pub mod StoreSteps

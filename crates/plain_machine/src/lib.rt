@@ -2,6 +2,8 @@
 #![tactic(auto)]
 
 mod apply;
+mod memory;
+mod outside;
 mod run;
 mod start;
 mod state;

@@ -81,7 +81,7 @@ fn run(
             return Ok(i);
         }
         let change = next(alloc, code, variants, m, s)?;
-        s.apply(code, change);
+        s.apply(code, change)?;
     }
     Ok(budget)
 }

@@ -1,5 +1,5 @@
 //! The state in which the run of a case begins.
-ghost use Rattle.std.specs.Prelude.{◌≡◌, ◌<◌, ◌≤◌, ◌-◌, ◌++◌, length, IfOk, replicate, None, Some, slice_get, unwrap_or};
+ghost use Rattle.std.specs.Prelude.{◌≡◌, ◌<◌, ◌≤◌, ◌-◌, ◌++◌, length, All, IfOk, replicate, None, Some, slice_get, unwrap_or};
 ghost use Rattle.code_form.specs.Places.{no_block};
 ghost use Rattle.code_form.specs.Sound.{IsSound};
 ghost use Rattle.code_form.specs.Fit.{FitsCase};
@@ -13,6 +13,11 @@ use am_lists::Items;
 use change_set::Frame;
 use code_form::{Case, Code, Func};
 use std::alloc::Global;
+
+/// What a list of bytes holds are bytes.
+fn hold_bytes(bytes: &[u8])
+    ensures { All (λ b. b < 256) bytes.now }
+{}
 
 /// The 1,048,576 bytes of memory: the opening ones, and zeros.
 fn opening_bytes(alloc: Global, memory: &[u8]) -> Result<Vec<u8>, OutOfMemory>
@@ -77,11 +82,15 @@ impl FlatState {
     pub fn start(alloc: Global, code: &Code, case: &Case) -> Result<FlatState, OutOfMemory>
         requires sound { IsSound code.now }
         requires case { FitsCase code.now case.now }
-        ensures { IfOk result (λ s. s ≡ start_of code.now case.now) }
+        ensures state { IfOk result (λ s. s ≡ start_of code.now case.now) }
+        ensures bytes { IfOk result (λ s. All (λ b. b < 256) s.bytes) }
+        ensures input { IfOk result (λ s. All (λ b. b < 256) s.input) }
     {
         let running = first_frame(alloc, code, case)?;
         let bytes = opening_bytes(alloc, code.memory.as_slice())?;
         let input = case.input.copy(alloc)?;
+        hold_bytes(bytes.as_slice());
+        hold_bytes(input.as_slice());
         Ok(FlatState::opening(alloc, running, bytes, code.stack_base, input))
     }
 }

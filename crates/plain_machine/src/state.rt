@@ -1,13 +1,13 @@
-ghost use Rattle.std.specs.Prelude.{◌≡◌, ◌<◌, ◌+◌, ◌^◌, ◌↔◌, IsTrue, [], reverse, is_some};
+ghost use Rattle.std.specs.Prelude.{◌≡◌, ◌<◌, ◌+◌, ◌^◌, ◌↔◌, IsTrue, [], length, slice_get, reverse, is_some, OnOk};
 ghost use Rattle.change_set.specs.State.{register};
 ghost use Rattle.change_set.specs.Straight.{value_of};
 ghost use Rattle.change_set.specs.After.{after_change};
 ghost use Rattle.change_set.specs.Start.{opening_of};
 ghost use Rattle.change_set.specs.Machine.{outcome_at};
-ghost use Rattle.plain_machine.specs.Plain.{IsPlain};
+ghost use Rattle.plain_machine.specs.Plain.{GoesOnOrEnds};
 
-use crate::apply::{write_bytes, write_registers};
-use am_base::{Ending, Outcome};
+use crate::apply::{moved_on, put_out, write_bytes, write_registers};
+use am_base::{Ending, OutOfMemory, Outcome};
 use am_lists::{Bytes, Items};
 use change_set::{Change, Control, Frame};
 use code_form::{Code, Operand};
@@ -140,14 +140,41 @@ impl FlatState {
         }
     }
 
-    /// Makes a change of an instruction that goes on at the next place or ends the run.
-    pub fn apply(&mut self, code: &Code, c: Change)
-        requires plain { IsPlain c }
-        requires room { self.old.running.place + 1 < 2 ^ 32 }
-        ensures { self.new ≡ after_change code.now self.old c }
+    /// The bytes of the memory.
+    pub fn bytes(&self) -> &[u8]
+        ensures { result.now ≡ self.now.bytes }
+    {
+        self.bytes.as_slice()
+    }
+
+    /// How many bytes were put out.
+    pub fn output_len(&self) -> usize
+        ensures { result ≡ length self.now.output }
+    {
+        self.output.len()
+    }
+
+    /// The next byte of the input, if there is one.
+    pub fn next_input(&self) -> Option<u8>
+        ensures { result ≡ slice_get self.now.input self.now.position }
+    {
+        match self.input.get(self.position as usize) {
+            Some(byte) => Some(*byte),
+            None => None,
+        }
+    }
+
+    /// Makes a change that goes on at the next place or ends the run. It is refused only for want of memory.
+    pub fn apply(&mut self, code: &Code, c: Change) -> Result<(), OutOfMemory>
+        requires plain { GoesOnOrEnds c.control }
+        requires place { self.old.running.place + 1 < 2 ^ 32 }
+        requires position { self.old.position + 1 < 2 ^ 32 }
+        ensures { OnOk result (self.new ≡ after_change code.now self.old c) }
     {
         write_bytes(&mut self.bytes, c.bytes.as_slice());
         self.top = c.top;
+        put_out(&mut self.output, c.put)?;
+        self.position = moved_on(self.position, c.took);
         match c.control {
             Control::Next => {
                 write_registers(&mut self.running.registers, c.writes.as_slice());
@@ -156,5 +183,6 @@ impl FlatState {
             Control::End(ending) => self.ending = Some(ending),
             _ => unreachable!(),
         }
+        Ok(())
     }
 }

@@ -5,6 +5,8 @@ ghost use Rattle.change_set.specs.Next.{bin_change, cmp_change, select_change, c
 ghost use Rattle.plain_machine.specs.Operands.{HoldsWord, CanStep};
 ghost use Rattle.plain_machine.specs.Ports.{no_answers};
 
+use crate::memory::{alloca, load, store};
+use crate::outside::call_outside;
 use crate::state::FlatState;
 use am_base::{BinOp, Cast, Ending, OutOfMemory, Pred, Trap, Width, binary, compare, convert};
 use change_set::{ByteWrites, Change, Control, RegisterWrites};
@@ -12,7 +14,7 @@ use code_form::{Code, Instr, Operand};
 use std::alloc::Global;
 
 /// The write of a word, where the instruction has a register for it.
-fn write(alloc: Global, r: Option<u32>, word: u64) -> Result<RegisterWrites, OutOfMemory>
+pub fn write(alloc: Global, r: Option<u32>, word: u64) -> Result<RegisterWrites, OutOfMemory>
     ensures { IfOk result (λ writes. writes ≡ write_of r word) }
 {
     let mut writes = RegisterWrites::new(alloc);
@@ -23,7 +25,7 @@ fn write(alloc: Global, r: Option<u32>, word: u64) -> Result<RegisterWrites, Out
 }
 
 /// The instruction has this word, and the run goes on at the next place.
-fn gives(alloc: Global, s: &FlatState, r: Option<u32>, word: u64) -> Result<Change, OutOfMemory>
+pub fn gives(alloc: Global, s: &FlatState, r: Option<u32>, word: u64) -> Result<Change, OutOfMemory>
     ensures { IfOk result (λ c. c ≡ word_change s.now r word) }
 {
     Ok(Change {
@@ -37,7 +39,7 @@ fn gives(alloc: Global, s: &FlatState, r: Option<u32>, word: u64) -> Result<Chan
 }
 
 /// The run ends, and nothing else changes.
-fn ends(alloc: Global, s: &FlatState, ending: Ending) -> Change
+pub fn ends(alloc: Global, s: &FlatState, ending: Ending) -> Change
     ensures { result ≡ end_change s.now ending }
 {
     Change {
@@ -50,7 +52,7 @@ fn ends(alloc: Global, s: &FlatState, ending: Ending) -> Change
     }
 }
 
-fn traps(alloc: Global, s: &FlatState, trap: Trap) -> Change
+pub fn traps(alloc: Global, s: &FlatState, trap: Trap) -> Change
     ensures { result ≡ trap_change s.now trap }
 {
     ends(alloc, s, Ending::Trap(trap))
@@ -184,8 +186,12 @@ pub fn step(
         Instr::Select(c, a, b) => select(alloc, s, r, *c, *a, *b),
         Instr::Cast(c, from, to, a) => cast(alloc, s, r, *c, *from, *to, *a),
         Instr::Freeze(a) => freeze(alloc, s, r, *a),
+        Instr::Alloca(size, align, count) => alloca(alloc, s, r, *size, *align, *count),
+        Instr::Load(w, a) => load(alloc, s, r, *w, *a),
+        Instr::Store(w, a, b) => store(alloc, code, s, *w, *a, *b),
+        Instr::Call(callee, args) => call_outside(alloc, code, s, r, *callee, args.as_slice()),
         Instr::Ret(a) => Ok(ret(alloc, s, *a)),
-        Instr::Unreachable => Ok(traps(alloc, s, Trap::Unreachable)),
+        Instr::Phi(_) | Instr::Unreachable => Ok(traps(alloc, s, Trap::Unreachable)),
         _ => unreachable!(),
     }
 }

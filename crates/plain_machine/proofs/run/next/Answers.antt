@@ -1,16 +1,14 @@
 use Rattle.std.proofs.Common.{ℕ, ◌<◌, length, sym, ap, ◌∙◌, subst}
 use Rattle.code_form.specs.declared.instr.Instr.{Instr}
 use Rattle.code_form.specs.Variant.{instr_of}
-use Rattle.change_set.proofs.Fits.{place_within}
 use Rattle.plain_machine.specs.Operands.{CanStep}
-use Rattle.plain_machine.proofs.StraightRuns.{variant_can_step}
+use Rattle.plain_machine.proofs.StraightRuns.{variant_can_step, place_inside}
 use Rattle.plain_machine.proofs.run.next.Goals as goal
 
 pub instr-requires-clause-within : goal.instr-requires-clause-within
 instr-requires-clause-within c =
-    let frame = c.requires.running.sound.running in
     let P : ℕ → Type 0 = λ n. n < length c.args.code.now.instrs in
-    subst P (sym c.place-place.ensures) (place_within c.args.code.now frame.number frame.function c.args.s.now.running.place c.requires.sound frame.is frame.stands)
+    subst P (sym c.place-place.ensures) (place_inside c.args.code.now c.args.s.now c.requires.sound c.requires.running)
 
 pub step-requires-clause-operands : goal.step-requires-clause-operands
 step-requires-clause-operands c =

@@ -1,14 +1,13 @@
 use Rattle.std.proofs.Common.{◌≡◌, ◌+◌, ◌-◌, ◌<◌, suc, false, length, None, arith, sym, ap, ◌∙◌, subst}
 use Rattle.std.specs.Prelude.{is_some}
 use Rattle.code_form.specs.Variant.{variant_of}
-use Rattle.change_set.specs.State.{State}
+use Rattle.change_set.specs.declared.change.Change.{Change}
 use Rattle.change_set.specs.After.{after_change}
 use Rattle.change_set.specs.Machine.{trial_of}
-use Rattle.change_set.proofs.Fits.{place_within}
 use Rattle.plain_machine.specs.Ports.{no_answers}
-use Rattle.plain_machine.specs.Plain.{IsPlain}
+use Rattle.plain_machine.specs.Plain.{GoesOnOrEnds}
 use Rattle.plain_machine.specs.Running.{IsRunning}
-use Rattle.plain_machine.proofs.StraightRuns.{variant_keeps, not_ended}
+use Rattle.plain_machine.proofs.StraightRuns.{variant_plain, variant_runs, place_inside}
 use Rattle.plain_machine.proofs.Turns.{state_over, length_over, state_spent, length_spent, state_more, length_more}
 use Rattle.plain_machine.proofs.run.run.Goals as goal
 
@@ -35,17 +34,19 @@ returns-clause-length c =
 
 pub apply-requires-clause-plain : goal.apply-requires-clause-plain
 apply-requires-clause-plain c =
-    let run = c.loop-i.invariant.running (not_ended c.loop-i.s.ending (sym c.has_ended.ensures ∙ c.if-has_ended.false)) in
     let v = variant_of c.args.variants.now c.args.m c.loop-i.s.running.place in
-    subst IsPlain (sym c.in_ok-change.ensures) (variant_keeps c.args.code.now c.args.variants.now c.requires.sound c.requires.table c.requires.straight c.loop-i.s run v).plain
+    let P : Change → Type 0 = λ d. GoesOnOrEnds d.control in
+    subst P (sym c.in_ok-change.ensures) (variant_plain c.args.code.now c.args.variants.now c.requires.sound c.requires.table c.requires.straight c.loop-i.s c.loop-i.invariant.running v)
 
-pub apply-requires-clause-room : goal.apply-requires-clause-room
-apply-requires-clause-room c =
-    let run = c.loop-i.invariant.running (not_ended c.loop-i.s.ending (sym c.has_ended.ensures ∙ c.if-has_ended.false)) in
-    let frame = run.sound.running in
-    let inside : c.loop-i.s.running.place < length c.args.code.now.instrs =
-    place_within c.args.code.now frame.number frame.function c.loop-i.s.running.place c.requires.sound frame.is frame.stands in
+pub apply-requires-clause-place : goal.apply-requires-clause-place
+apply-requires-clause-place c =
+    let inside : c.loop-i.s.running.place < length c.args.code.now.instrs = place_inside c.args.code.now c.loop-i.s c.requires.sound c.loop-i.invariant.running in
     omega (arith, c.requires.sound.few_instrs)
+
+pub apply-requires-clause-position : goal.apply-requires-clause-position
+apply-requires-clause-position c =
+    let sound = c.loop-i.invariant.running.sound in
+    omega (arith, sound.position, sound.input)
 
 pub loop-i-preserved : goal.loop-i-preserved
 loop-i-preserved c =
@@ -54,13 +55,11 @@ loop-i-preserved c =
     let k = c.args.case.now.budget - (c.loop-i.i + 1) in
     let more : c.args.case.now.budget - c.loop-i.i ≡ suc (c.args.case.now.budget - (c.loop-i.i + 1)) = omega arith in
     let lives : is_some c.loop-i.s.ending ≡ false = sym c.has_ended.ensures ∙ c.if-has_ended.false in
-    let run = c.loop-i.invariant.running (not_ended c.loop-i.s.ending lives) in
     let v = variant_of c.args.variants.now c.args.m c.loop-i.s.running.place in
-    let keeps = variant_keeps c.args.code.now c.args.variants.now c.requires.sound c.requires.table c.requires.straight c.loop-i.s run v in
-    let leads = c.apply.ensures ∙ ap (after_change c.args.code.now c.loop-i.s) c.in_ok-change.ensures in
-    let P : State → Type 0 = λ t. t.ending ≡ None → IsRunning c.args.code.now t in
+    let runs = variant_runs c.args.code.now c.args.variants.now c.requires.sound c.requires.table c.requires.straight c.loop-i.s c.loop-i.invariant.running v in
+    let leads = c.in_ok-apply.ensures ∙ ap (after_change c.args.code.now c.loop-i.s) c.in_ok-change.ensures in
     record {
-      state = state_more T c.args.m n k c.loop-i.s c.apply.new.self c.in_ok-change.change more lives c.in_ok-change.ensures c.apply.ensures _ c.loop-i.invariant.state;
-      length = length_more T c.args.m n k c.loop-i.s c.apply.new.self c.in_ok-change.change more lives c.in_ok-change.ensures c.apply.ensures c.loop-i.i _ c.loop-i.invariant.length;
-      running = subst P (sym leads) keeps.running;
+      state = state_more T c.args.m n k c.loop-i.s c.apply.new.self c.in_ok-change.change more lives c.in_ok-change.ensures c.in_ok-apply.ensures _ c.loop-i.invariant.state;
+      length = length_more T c.args.m n k c.loop-i.s c.apply.new.self c.in_ok-change.change more lives c.in_ok-change.ensures c.in_ok-apply.ensures c.loop-i.i _ c.loop-i.invariant.length;
+      running = subst (IsRunning c.args.code.now) (sym leads) runs;
     }

@@ -1,4 +1,4 @@
-use Rattle.std.proofs.Common.{◌≡◌, ◌+◌, ◌-◌, length, None}
+use Rattle.std.proofs.Common.{◌≡◌, ◌+◌, ◌-◌, length}
 use Rattle.traces.specs.Trace.{changes_from, state_after}
 use Rattle.change_set.specs.Machine.{trial_of}
 use Rattle.plain_machine.specs.Ports.{no_answers}
@@ -13,5 +13,5 @@ invariant-loop-i l =
     record {
       state : state_after T l.s left ≡ state_after T l.initial.s all;
       length : l.i + length left ≡ length all;
-      running : l.s.ending ≡ None → IsRunning l.code l.s;
+      running : IsRunning l.code l.s;
     }

@@ -1,0 +1,85 @@
+//! Calls of the four outside functions that every machine knows.
+ghost use Rattle.std.specs.Prelude.{◌≡◌, ◌<◌, ◌≤◌, [], ◌∷◌, length, IfOk};
+ghost use Rattle.change_set.specs.Straight.{value_of, values_of, with_value, end_change};
+ghost use Rattle.change_set.specs.Calls.{first_of, put_change, take_change, call_change};
+ghost use Rattle.change_set.specs.Next.{next_of};
+ghost use Rattle.plain_machine.specs.Operands.{CanCall};
+ghost use Rattle.plain_machine.specs.Ports.{no_answers};
+ghost use Rattle.am_base.specs.declared.outcome.Ending.TheVariants.{Exit as Exited};
+ghost use Rattle.std.specs.Prelude.{slice_get};
+
+use crate::state::FlatState;
+use crate::step::{ends, gives, traps, write};
+use am_base::{Ending, OutOfMemory, Trap};
+use change_set::{ByteWrites, Change, Control};
+use code_form::{Callee, Code, Operand};
+use std::alloc::Global;
+
+/// `putchar`: the lowest byte of its argument is put out, and is its word.
+fn put_char(alloc: Global, s: &FlatState, r: Option<u32>, a: Operand) -> Result<Change, OutOfMemory>
+    ensures { IfOk result (λ c. c ≡ with_value s.now (values_of s.now (a ∷ [])) (λ xs. put_change s.now r (first_of xs))) }
+{
+    let Some(x) = s.value(a) else {
+        return Ok(traps(alloc, s, Trap::UnsetRegister));
+    };
+    if s.output_len() >= 65536 {
+        return Ok(traps(alloc, s, Trap::OutputFull));
+    }
+    let byte = (x % 256) as u8;
+    Ok(Change {
+        writes: write(alloc, r, u64::from(byte))?,
+        bytes: ByteWrites::new(alloc),
+        top: s.top(),
+        put: Some(byte),
+        took: false,
+        control: Control::Next,
+    })
+}
+
+/// `getchar`: the next byte of the input, or -1 at its end.
+fn get_char(alloc: Global, s: &FlatState, r: Option<u32>) -> Result<Change, OutOfMemory>
+    ensures { IfOk result (λ c. c ≡ take_change s.now r (slice_get s.now.input s.now.position)) }
+{
+    let Some(byte) = s.next_input() else {
+        return gives(alloc, s, r, 0xffff_ffff);
+    };
+    Ok(Change {
+        writes: write(alloc, r, u64::from(byte))?,
+        bytes: ByteWrites::new(alloc),
+        top: s.top(),
+        put: None,
+        took: true,
+        control: Control::Next,
+    })
+}
+
+/// `exit`: the run ends with its argument.
+fn exit(alloc: Global, s: &FlatState, a: Operand) -> Change
+    ensures { result ≡ with_value s.now (values_of s.now (a ∷ [])) (λ xs. end_change s.now (Exited (first_of xs))) }
+{
+    let Some(x) = s.value(a) else {
+        return traps(alloc, s, Trap::UnsetRegister);
+    };
+    ends(alloc, s, Ending::Exit(x))
+}
+
+/// A call of an outside function.
+pub fn call_outside(
+    alloc: Global,
+    code: &Code,
+    s: &FlatState,
+    r: Option<u32>,
+    callee: Callee,
+    args: &[Operand],
+) -> Result<Change, OutOfMemory>
+    requires { CanCall callee args.now }
+    ensures { IfOk result (λ c. c ≡ with_value s.now (values_of s.now args.now) (λ xs. call_change code.now no_answers s.now r callee xs)) }
+{
+    match (callee, args) {
+        (Callee::PutChar, [a]) => put_char(alloc, s, r, *a),
+        (Callee::Exit, [a]) => Ok(exit(alloc, s, *a)),
+        (Callee::GetChar, []) => get_char(alloc, s, r),
+        (Callee::Abort, []) => Ok(traps(alloc, s, Trap::Abort)),
+        _ => unreachable!(),
+    }
+}
