@@ -1,0 +1,5 @@
+pub mod Exact
+pub mod GroupExact
+pub mod Productions
+pub mod ModuleLemmas
+pub mod Loops

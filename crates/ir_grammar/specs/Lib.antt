@@ -1,0 +1,11 @@
+pub mod Lexeme
+pub mod Rule
+pub mod Words
+pub mod Starts
+pub mod Groups
+pub mod Types
+pub mod Skips
+pub mod Operands
+pub mod Ops
+pub mod Items
+pub mod Modules
