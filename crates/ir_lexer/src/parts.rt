@@ -22,18 +22,21 @@ pub fn quoted_len(text: &[u8]) -> usize
     }
 }
 
+/// Whether a `"` stands at the front.
 pub fn begins_quote(text: &[u8]) -> bool
     ensures { result ≡ spec.begins is_quote text.now }
 {
     matches!(text, [b'"', ..])
 }
 
+/// Whether a `:` stands at the front.
 pub fn begins_colon(text: &[u8]) -> bool
     ensures { result ≡ spec.begins is_colon text.now }
 {
     matches!(text, [b':', ..])
 }
 
+/// Whether a digit stands at the front.
 fn begins_digit(text: &[u8]) -> bool
     ensures { result ≡ spec.begins is_ascii_digit text.now }
 {
@@ -43,6 +46,7 @@ fn begins_digit(text: &[u8]) -> bool
     }
 }
 
+/// Whether the run is the digits of a number below 2^32.
 fn is_small_number(text: &[u8]) -> bool
     ensures { result ≡ spec.is_small_number text.now }
 {

@@ -27,8 +27,16 @@ fn expect_fault(rt: &impl Abort, alloc: Global, text: &str, want: LexError) {
     assert_eq!(rt; lex(alloc, bytes).err(), Some(want), "in {text:?}");
 }
 
+/// Asserts that the texts have these tokens, each as its kind and its bytes.
+fn expect_tokens(rt: &impl Abort, alloc: Global, cases: &[(&str, &str)]) -> Result<(), Fail> {
+    for &(text, want) in cases {
+        assert_eq!(rt; rendered(rt, alloc, text)?.as_str(), want, "of {text:?}");
+    }
+    Ok(())
+}
+
 #[test]
-fn tokens_of_texts(rt: HostRuntime) -> Result<(), Fail> {
+fn tokens_of_names_and_labels(rt: HostRuntime) -> Result<(), Fail> {
     let cases = [
         (
             "%a %007 %4294967295 %00000000000000000001 %-5 %a-b %\"\" %5:",
@@ -46,6 +54,13 @@ fn tokens_of_texts(rt: HostRuntime) -> Result<(), Fail> {
             "4294967295: 4294967296: 00000000004294967295: 00000000004294967296:",
             "Label 4294967295: Number 4294967296 Sign(58) : Label 00000000004294967295: Number 00000000004294967296 Sign(58) : ",
         ),
+    ];
+    expect_tokens(&rt, rt.alloc(), &cases)
+}
+
+#[test]
+fn tokens_of_quotes_words_and_signs(rt: HostRuntime) -> Result<(), Fail> {
+    let cases = [
         (
             "c\"a\\00\" c\"\": c \"a\" xc\"a\" c: c",
             "CString c\"a\\00\" CString c\"\" Sign(58) : Word c Quoted \"a\" Word xc Quoted \"a\" Label c: Word c ",
@@ -69,12 +84,22 @@ fn tokens_of_texts(rt: HostRuntime) -> Result<(), Fail> {
         ("; a \" ~ \n b;c;d\n\te\r;", "Word b Word e "),
         ("", ""),
     ];
-    for (text, want) in cases {
-        assert_eq!(rt;
-            rendered(&rt, rt.alloc(), text)?.as_str(),
-            want,
-            "of {text:?}"
-        );
+    expect_tokens(&rt, rt.alloc(), &cases)
+}
+
+/// Bytes of no text in ASCII are a fault alone, and stand in quotes and comments.
+#[test]
+fn bytes_of_quoted_texts_and_comments(rt: HostRuntime) -> Result<(), Fail> {
+    for byte in [0, 0x7f, 0x80, 0xff] {
+        let alone = lex(rt.alloc(), &[byte]).err();
+        assert_eq!(rt; alone, Some(LexError::BadByte { at: 0 }), "byte {byte}");
+        let text = [b'c', b'"', byte, b'"', b'"', byte, b'"', b';', byte];
+        let tokens = lex(rt.alloc(), &text)?;
+        let want = [(CString, 0, 4), (Quoted, 4, 7)];
+        assert_eq!(rt; tokens.len(), 2, "byte {byte}");
+        for (token, (kind, from, to)) in tokens.iter().zip(want) {
+            assert_eq!(rt; (token.kind, token.from, token.to), (kind, from, to));
+        }
     }
     Ok(())
 }
