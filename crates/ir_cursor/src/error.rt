@@ -1,0 +1,43 @@
+use am_base::OutOfMemory;
+use std::alloc::{AllocError, AllocFailed};
+
+/// Why a part of an item isn't read.
+#[derive(Clone, Copy, Debug, PartialEq, Eq)]
+pub enum PartError {
+    /// The part doesn't stand here.
+    NotHere,
+    OutOfMemory,
+}
+
+impl From<AllocError> for PartError {
+    ghost use Rattle.ir_cursor.specs.declared.error.PartError.TheVariants.{OutOfMemory};
+    ghost use Rattle.std.specs.Prelude.{◌≡◌};
+
+    ghost from_gives = { λ _ e. e ≡ OutOfMemory };
+
+    fn from(_error: AllocError) -> PartError {
+        PartError::OutOfMemory
+    }
+}
+
+impl<T: Drop> From<AllocFailed<T>> for PartError {
+    ghost use Rattle.ir_cursor.specs.declared.error.PartError.TheVariants.{OutOfMemory};
+    ghost use Rattle.std.specs.Prelude.{◌≡◌};
+
+    ghost from_gives = { λ _ e. e ≡ OutOfMemory };
+
+    fn from(_error: AllocFailed<T>) -> PartError {
+        PartError::OutOfMemory
+    }
+}
+
+impl From<OutOfMemory> for PartError {
+    ghost use Rattle.ir_cursor.specs.declared.error.PartError.TheVariants.{OutOfMemory};
+    ghost use Rattle.std.specs.Prelude.{◌≡◌};
+
+    ghost from_gives = { λ _ e. e ≡ OutOfMemory };
+
+    fn from(_error: OutOfMemory) -> PartError {
+        PartError::OutOfMemory
+    }
+}
