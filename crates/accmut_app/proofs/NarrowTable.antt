@@ -25,7 +25,6 @@ use Rattle.accmut_app.specs.declared.narrow.module.NarrowModule.{NarrowModule}
 use Rattle.accmut_app.specs.declared.narrow.list.Row.{Row}
 use Rattle.accmut_app.specs.NarrowForm.{instr_of, form_of}
 use Rattle.accmut_app.specs.NarrowModule.{GivesForm, IsLine, IsStraight, IsNarrow, code_of, function_of, first_bytes}
-use Rattle.plain_machine.specs.Narrow.{IsStraight as IsStraightInstr, IsStraightLine}
 use Rattle.accmut_app.specs.NarrowList.{form_in, form_at, same_form, is_form, FitsLine, replaced_by, row_program, IsTableOf}
 use Rattle.accmut_app.proofs.NarrowLists.{slice_get-some, slice_get-push, slice_get-append, slice_get-seam, slice_get-set_same, slice_get-set_other}
 use Rattle.accmut_app.proofs.NarrowLine.{IsFitting, line-IsFitting}
@@ -71,13 +70,6 @@ same_end types n x y r true true f g e h = refl
 same_end types n x y r false false f g e h = refl
 same_end types n x y r true false f g e h = let a = f.last e in let b = g.value h in absurd (omega arith)
 same_end types n x y r false true f g e h = let a = f.value e in let b = g.last h in absurd (omega arith)
-
-op-IsStraight : (op : Op) → IsStraightInstr (instr_of op)
-op-IsStraight (Add a b) = tt
-op-IsStraight (Subtract a b) = tt
-op-IsStraight (Greater a b) = tt
-op-IsStraight (Choose c a b) = tt
-op-IsStraight (Return a) = tt
 
 -- ---- a code with one instruction replaced
 
@@ -335,14 +327,6 @@ table-last m rows table n t = record {
       (λ g. t.program q at g)
       (cases_lt (length rows) q);
   fits = record { each = λ at j i e. let f = t.fits at j i e in subst (FitsPlace m.code at) (sym f.1) (op-FitsPlace m at f.0 n f.2) };
-  straight = record {
-    original = λ at h.
-        let x = slice_get-some m.code.instrs at h in
-        let r = slice_get-some m.code.results at (omega (arith, h, n.straight.same)) in
-        let l = n.straight.lines at x.0 r.0 x.1 r.1 in
-        subst IsStraightInstr (sym (ap (λ o. unwrap_or o Unreachable) x.1 ∙ l.1)) (op-IsStraight l.0);
-    replaced = λ at j i e. let f = t.fits at j i e in subst IsStraightInstr (sym f.1) (op-IsStraight f.0);
-  };
 }
   where
     past : (q at : ℕ) → length rows < q → row_program m.code rows q at ≡ instr_at m.code at

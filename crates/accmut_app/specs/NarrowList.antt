@@ -7,7 +7,6 @@ use Rattle.code_form.specs.declared.code.Code.{Code}
 use Rattle.code_form.specs.Places.{instr_at}
 use Rattle.code_form.specs.Variant.{Table, mutants_of, program_of}
 use Rattle.code_form.specs.Fit.{FitsTable}
-use Rattle.plain_machine.specs.Narrow.{IsStraightLine}
 use Rattle.accmut_app.specs.declared.narrow.ops.Op.{Op}
 use Rattle.accmut_app.specs.declared.narrow.ops.Form.{Form}
 use Rattle.accmut_app.specs.declared.narrow.ops.Form.TheVariants.{Word, Bit, End}
@@ -99,7 +98,6 @@ pub record IsTableOf (m : NarrowModule) (rows : List Row) (table : Table) : Type
   pub mutants : mutants_of table ≡ 1 + length rows
   pub program : (q at : ℕ) → program_of m.code table q at ≡ row_program m.code rows q at
   pub fits : FitsTable m.code table
-  pub straight : IsStraightLine m.code table
 
 -- what reading a list gives
 abbrev pub ReadsList : NarrowModule → Option (List Row) → Option Table → Type 0

@@ -9,7 +9,6 @@ ghost use Rattle.accmut_app.specs.Answer.{IsListOf};
 ghost use Rattle.accmut_app.specs.Answer.{Reads, Fails};
 ghost use Rattle.test_suite.specs.Suite.{FitsSuite};
 ghost use Rattle.code_form.specs.Fit.{FitsTable};
-ghost use Rattle.plain_machine.specs.Narrow.{IsStraightLine};
 
 use crate::narrow::{NarrowModule, read_list, read_module, read_suite};
 use am_base::{FILE_LIMIT, OutOfMemory, ReadFailed, Shelf, read_whole};
@@ -78,7 +77,6 @@ pub fn load_list<F: Shelf>(
     requires narrow { IsNarrow narrow.now }
     ensures ok { IfOk result (λ table. Reads (F.files shelf.old) name.now (λ file. IsListOf narrow.now file table)) }
     ensures fits { IfOk result (FitsTable narrow.now.code) }
-    ensures straight { IfOk result (IsStraightLine narrow.now.code) }
     ensures err { IfErr result (Fails (F.files shelf.old) name.now (Rose (F.faults shelf.old name.now) (F.faults shelf.new name.now)) (λ file. narrow_list narrow.now file ≡ None)) }
     ensures kept { F.files shelf.new ≡ F.files shelf.old }
     ensures counts { (other : List ℕ) → F.faults shelf.old other ≤ F.faults shelf.new other }

@@ -1,14 +1,13 @@
 -- What is apart: blocks of one function, functions, and the words of arguments in their registers.
-use Rattle.std.proofs.Common.{◌≡◌, ◌≢◌, ℕ, zero, suc, ◌+◌, ◌<◌, ◌≤◌, List, [], ◌∷◌, length, take, set, replicate, get_or, Option, Some, None, slice_get, arith, sym, ◌∙◌, ap, refl, subst, get_or-set_same, get_or-set_other}
+use Rattle.std.proofs.Common.{◌≡◌, ◌≢◌, ℕ, zero, suc, ◌+◌, ◌<◌, ◌≤◌, List, [], ◌∷◌, length, set, get_or, Option, Some, None, slice_get, arith, sym, ◌∙◌, ap, refl, subst, get_or-set_same, get_or-set_other}
 use Rattle.std.specs.Prelude.{flat_map}
 use Rattle.std.proofs.Math.ListN.{length-set}
-use Rattle.std.proofs.lemmas.List.{length-replicate}
 use Rattle.code_form.specs.declared.instr.Operand.{Operand}
 use Rattle.code_form.specs.declared.code.TyScalar.{TyScalar}
 use Rattle.code_form.specs.declared.code.Block.{Block}
 use Rattle.code_form.specs.declared.code.Func.{Func}
 use Rattle.code_form.specs.declared.code.Code.{Code}
-use Rattle.code_form.specs.Places.{begins_at, function_of}
+use Rattle.code_form.specs.Places.{function_of}
 use Rattle.code_form.specs.Sound.{IsSound, IsSoundFunc, IsPlaceOf, HaveTypes, AreLaid}
 use Rattle.change_set.specs.State.{State, with_writes}
 use Rattle.change_set.specs.Straight.{value_of, values_of, joined}

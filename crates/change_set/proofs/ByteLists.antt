@@ -1,9 +1,9 @@
 -- The bytes after a list of real changes determine the list.
-use Rattle.std.proofs.Common.{◌≡◌, ◌≢◌, ◌⊎◌, ℕ, zero, suc, ◌+◌, ◌<◌, ◌≤◌, List, [], ◌∷◌, length, get_or, set, arith, sym, ◌∙◌, ap, refl, subst, inl, inr, get_or-set_other, get_or-set_same}
+use Rattle.std.proofs.Common.{◌≡◌, ◌≢◌, ◌⊎◌, ℕ, ◌+◌, ◌<◌, List, [], ◌∷◌, get_or, set, arith, sym, ◌∙◌, ap, refl, subst, inl, inr, get_or-set_other, get_or-set_same}
 use Rattle.std.proofs.lemmas.Bool.{cases_order}
 use Rattle.std.proofs.Math.ListN.{length-set}
 use Rattle.change_set.specs.State.{with_bytes}
-use Rattle.change_set.specs.EqualChanges.{AreReal}
+use Rattle.change_set.proofs.ChangeShapes.{AreReal}
 
 -- writes at greater addresses leave a byte
 below_kept : (ws : List (ℕ × ℕ)) (low at : ℕ) (bytes start : List ℕ) → AreReal low start ws → at < low → get_or (with_bytes bytes ws) at 0 ≡ get_or bytes at 0

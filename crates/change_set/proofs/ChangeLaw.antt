@@ -1,5 +1,5 @@
 -- The law of equal changes: where the changes of two variants of one place lead to one state, they are equal.
-use Rattle.std.proofs.Common.{◌≡◌, ◌⊎◌, ℕ, zero, suc, ◌+◌, ◌-◌, ◌<◌, ◌≤◌, Bool, true, false, cond, List, [], ◌∷◌, length, replicate, Option, Some, None, slice_get, arith, sym, ◌∙◌, ap, refl, subst, inl, inr}
+use Rattle.std.proofs.Common.{◌≡◌, ◌⊎◌, ℕ, ◌+◌, ◌-◌, ◌<◌, ◌≤◌, Bool, true, false, cond, List, [], ◌∷◌, length, replicate, Option, Some, None, slice_get, arith, sym, ◌∙◌, ap, refl, subst, inl, inr}
 use Rattle.std.specs.Prelude.{◌==◌, nat_lt}
 use Rattle.std.proofs.lemmas.List.{length-replicate}
 use Rattle.std.proofs.lemmas.Option.{slice_get_within}
@@ -14,11 +14,11 @@ use Rattle.code_form.specs.declared.code.Block.{Block}
 use Rattle.code_form.specs.declared.code.Func.{Func}
 use Rattle.code_form.specs.declared.code.Code.{Code}
 use Rattle.code_form.specs.Places.{instr_at, result_at, function_at, begins_at, block_of, instrs_of, results_of, is_terminator}
-use Rattle.code_form.specs.Sound.{IsSound, IsPlaceOf, IsTarget, InstrFits, HaveTypes, GivesMaybe}
+use Rattle.code_form.specs.Sound.{IsSound, IsPlaceOf, IsTarget, InstrFits, GivesMaybe}
 use Rattle.code_form.specs.Variant.{instr_of}
 use Rattle.change_set.specs.declared.change.Change.{Change}
 use Rattle.change_set.specs.declared.change.Control.{Control}
-use Rattle.change_set.specs.declared.change.Control.TheVariants.{Next, Jump as Go, Enter, Leave, End}
+use Rattle.change_set.specs.declared.change.Control.TheVariants.{Next, Jump as Go, Enter, Leave}
 use Rattle.change_set.specs.declared.frame.Frame.{Frame}
 use Rattle.change_set.specs.State.{State, with_writes, frames_of, words_of}
 use Rattle.change_set.specs.Straight.{value_of, values_of, with_value, end_change, trap_change, write_of}
@@ -28,7 +28,8 @@ use Rattle.change_set.specs.Next.{next_of}
 use Rattle.change_set.specs.Machine.{next_by}
 use Rattle.change_set.specs.After.{after_change, frame_after, callers_after, rest_of, ending_after, phis_in, entry_place}
 use Rattle.change_set.specs.SoundState.{AreSoundCallers, IsSoundState}
-use Rattle.change_set.specs.EqualChanges.{IsStraightChange, DeterminesChanges}
+use Rattle.change_set.specs.EqualChanges.{DeterminesChanges}
+use Rattle.change_set.proofs.ChangeShapes.{IsStraightChange}
 use Rattle.change_set.proofs.Fits.{variant_fits, variant_terminates, place_within}
 use Rattle.change_set.proofs.FoundPlaces.{some_at, block_found, phis_before_last}
 use Rattle.change_set.proofs.StartStates.{function_at-is, begun_frame}

@@ -1,5 +1,5 @@
 -- Places are found: the function of a place, a block of it, and the place behind the `phi` of a block.
-use Rattle.std.proofs.Common.{◌≡◌, ℕ, zero, suc, ◌+◌, ◌-◌, ◌<◌, ◌≤◌, Bool, true, false, List, [], ◌∷◌, length, take, drop, Option, Some, None, slice_get, arith, sym, ◌∙◌, ap, refl, subst, ◌||◌}
+use Rattle.std.proofs.Common.{◌≡◌, ℕ, zero, suc, ◌+◌, ◌-◌, ◌<◌, ◌≤◌, Bool, true, false, List, [], ◌∷◌, length, take, drop, Some, slice_get, arith, sym, ◌∙◌, ap, refl, subst, ◌||◌}
 use Rattle.std.specs.Prelude.{unwrap_or, flat_map}
 use Rattle.std.proofs.lemmas.List.{length-take-le, length-drop}
 use Rattle.std.proofs.lemmas.Bool.Decides.{nat_tests}
@@ -9,8 +9,8 @@ use Rattle.code_form.specs.declared.code.Block.{Block}
 use Rattle.code_form.specs.declared.code.Func.{Func}
 use Rattle.code_form.specs.declared.code.Code.{Code}
 use Rattle.code_form.specs.Places.{no_block, instr_at, lies_in, lies_in_some, function_in, function_of, block_of, instrs_of, is_phi, is_terminator}
-use Rattle.code_form.specs.Sound.{IsSound, IsSoundBlock, IsPlaceOf, IsTarget, AreLaid}
-use Rattle.change_set.specs.After.{phis_in, entry_place}
+use Rattle.code_form.specs.Sound.{IsSound, IsSoundBlock, IsPlaceOf, AreLaid}
+use Rattle.change_set.specs.After.{phis_in}
 use Rattle.change_set.proofs.Fits.{laid-le, laid_front}
 
 -- ---- the function of a place

@@ -1,5 +1,5 @@
 -- The change of each instruction leads from a sound state to a sound state.
-use Rattle.std.proofs.Common.{◌≡◌, ℕ, pos, ◌+◌, ◌<◌, List, [], ◌∷◌, map, get_or, Option, Some, None, Bool, true, false, cond, slice_get, arith, sym, refl, subst}
+use Rattle.std.proofs.Common.{◌≡◌, ℕ, pos, ◌+◌, ◌<◌, List, map, get_or, Option, Some, None, Bool, true, false, cond, slice_get, arith, refl, subst}
 use Rattle.std.specs.Prelude.{◌==◌, ◌+ℤ◌, All}
 use Rattle.std.proofs.lemmas.Option.{slice_get_within, slice_get-get_or}
 use Rattle.am_base.specs.declared.word.Width.{Width}

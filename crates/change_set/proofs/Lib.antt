@@ -12,6 +12,7 @@ pub mod SoundCalls
 pub mod Kept
 pub mod SameTests
 pub mod RisingTests
+pub mod ChangeShapes
 pub mod ByteLists
 pub mod StraightLaw
 pub mod StraightShapes

@@ -1,5 +1,5 @@
 -- What calls of functions and returns keep: the state after them is sound.
-use Rattle.std.proofs.Common.{◌≡◌, ℕ, zero, suc, ◌+◌, ◌-◌, ◌<◌, ◌≤◌, Bool, true, false, List, [], ◌∷◌, length, take, Option, Some, None, slice_get, arith, sym, ◌∙◌, ap, refl, subst}
+use Rattle.std.proofs.Common.{◌≡◌, ℕ, zero, suc, ◌+◌, ◌-◌, ◌≤◌, false, List, [], ◌∷◌, length, take, Option, Some, None, slice_get, arith, sym, ap, refl, subst}
 use Rattle.std.specs.Prelude.{nat_lt}
 use Rattle.std.proofs.lemmas.Bool.Decides.{nat_tests}
 use Rattle.std.proofs.lemmas.List.Sums.{sum_by-cons}
@@ -11,7 +11,6 @@ use Rattle.code_form.specs.declared.code.Func.{Func}
 use Rattle.code_form.specs.declared.code.Code.{Code}
 use Rattle.code_form.specs.Places.{function_at, result_at, instr_at, is_phi}
 use Rattle.code_form.specs.Sound.{IsSound, IsPlaceOf, HaveTypes, GivesMaybe, width_of}
-use Rattle.change_set.specs.declared.change.Change.{Change}
 use Rattle.change_set.specs.declared.change.Control.TheVariants.{Enter}
 use Rattle.change_set.specs.declared.frame.Frame.{Frame}
 use Rattle.change_set.specs.State.{State, with_writes, frames_of, words_of}

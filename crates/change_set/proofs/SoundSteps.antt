@@ -1,41 +1,33 @@
 -- What an instruction that goes on at the next place or ends the run keeps: the state after it is sound.
-use Rattle.std.proofs.Common.{◌≡◌, ℕ, ℤ, pos, zero, suc, ◌+◌, ◌*◌, ◌/◌, ◌%◌, ◌<◌, ◌≤◌, List, [], ◌∷◌, length, map, get_or, Option, Some, None, Result, Ok, Err, Bool, true, false, cond, slice_get, arith, sym, refl, subst, length-append}
-use Rattle.std.specs.Prelude.{◌==◌, ◌^◌, nat_le, nat_lt, slice_index, slice_range, ◌+ℤ◌, All}
-use Rattle.std.proofs.Math.Nat.{mod-lt}
+use Rattle.std.proofs.Common.{◌≡◌, ℕ, zero, suc, ◌+◌, ◌*◌, ◌/◌, ◌%◌, ◌<◌, ◌≤◌, List, [], ◌∷◌, length, Option, Some, None, Result, Ok, Err, Bool, true, false, cond, slice_get, arith, sym, refl, subst, length-append}
+use Rattle.std.specs.Prelude.{◌==◌, ◌^◌, nat_le, nat_lt, slice_index, slice_range, All}
 use Rattle.std.proofs.lemmas.Bool.Decides.{nat_tests}
 use Rattle.std.proofs.lemmas.List.Elements.{All-nil, All-cons}
-use Rattle.std.proofs.lemmas.Option.{slice_get_within, slice_get-get_or}
+use Rattle.std.proofs.lemmas.Option.{slice_get_within}
 use Rattle.am_base.specs.declared.word.Width.{Width}
-use Rattle.am_base.specs.declared.word.Width.TheVariants.{W1, W32, W64}
+use Rattle.am_base.specs.declared.word.Width.TheVariants.{W32, W64}
 use Rattle.am_base.specs.declared.word.Cast.{Cast as Conversion}
 use Rattle.am_base.specs.declared.word.Cast.TheVariants.{Trunc, ZExt, SExt, PtrToInt, IntToPtr}
 use Rattle.am_base.specs.declared.outcome.Trap.{Trap}
-use Rattle.am_base.specs.declared.outcome.Trap.TheVariants.{AddressRange, ConstantWrite, MemoryFull, OutputFull, Abort as Aborted}
-use Rattle.am_base.specs.Word.{IsWord, bits_of, binary_of, compare_of, convert_of}
+use Rattle.am_base.specs.declared.outcome.Trap.TheVariants.{AddressRange, ConstantWrite, MemoryFull, OutputFull}
+use Rattle.am_base.specs.Word.{IsWord, bits_of, convert_of}
 use Rattle.code_form.specs.Layout.{bytes_of, round_up}
 use Rattle.code_form.specs.declared.instr.Operand.{Operand}
-use Rattle.code_form.specs.declared.instr.Callee.{Callee}
-use Rattle.code_form.specs.declared.instr.Callee.TheVariants.{Func as CallFunc, Port, PutChar, GetChar, Exit, Abort}
-use Rattle.code_form.specs.declared.instr.Instr.{Instr}
-use Rattle.code_form.specs.declared.instr.Instr.TheVariants.{Bin, Cmp, Select, Cast, Freeze, Alloca, Load, Store, Get, Phi, Call, Jump, Branch, Switch, Ret, Unreachable}
 use Rattle.code_form.specs.declared.code.TyScalar.{TyScalar}
 use Rattle.code_form.specs.declared.code.TyScalar.TheVariants.{Int, Ptr}
 use Rattle.code_form.specs.declared.code.Code.{Code}
 use Rattle.code_form.specs.declared.sign.PortSign.{PortSign}
-use Rattle.code_form.specs.Places.{instr_at, result_at, is_phi, is_terminator}
-use Rattle.code_form.specs.Sound.{IsPlaceOf, InstrFits, CastFits, CallFits, Gives, GivesWidth, GivesMaybe, width_of, result_type}
+use Rattle.code_form.specs.Places.{instr_at, is_phi}
+use Rattle.code_form.specs.Sound.{IsPlaceOf, CastFits, Gives, GivesWidth, GivesMaybe, width_of, result_type}
 use Rattle.change_set.specs.declared.change.Change.{Change}
 use Rattle.change_set.specs.declared.change.Control.TheVariants.{Next}
 use Rattle.change_set.specs.State.{State, with_writes}
-use Rattle.change_set.specs.Straight.{value_of, values_of, with_value, end_change, trap_change, write_of, word_change, result_change, number_of, bytes_from, is_in_range, differing, load_change, store_change, alloca_change, scaled_sum}
-use Rattle.change_set.specs.Calls.{Answers, first_of, width_of_sign, answer_change, put_change, take_change, call_change}
-use Rattle.change_set.specs.Next.{next_of}
+use Rattle.change_set.specs.Straight.{value_of, with_value, trap_change, write_of, word_change, result_change, number_of, bytes_from, is_in_range, differing, load_change, store_change, alloca_change}
+use Rattle.change_set.specs.Calls.{width_of_sign, answer_change, put_change, take_change}
 use Rattle.change_set.specs.After.{after_change}
-use Rattle.code_form.specs.Variant.{instr_of}
 use Rattle.change_set.specs.SoundState.{AreTyped, IsSoundState}
-use Rattle.change_set.proofs.ResultWords.{modulo-lt, word_of-lt, flag-lt, binary_of-lt, wider, bits_of-le}
-use Rattle.change_set.proofs.Fits.{variant_fits, variant_goes_on, variant_no_phi}
-use Rattle.change_set.proofs.SoundStates.{operand_word, operand_of_width, result_keeps_types, end_sound, moved_sound}
+use Rattle.change_set.proofs.ResultWords.{modulo-lt, word_of-lt, wider, bits_of-le}
+use Rattle.change_set.proofs.SoundStates.{operand_word, result_keeps_types, end_sound, moved_sound}
 
 -- ---- bytes
 

@@ -1,14 +1,13 @@
 -- The law of equal changes, for changes that go on to the next place or end the run.
-use Rattle.std.proofs.Common.{◌≡◌, ◌≢◌, ◌⊎◌, ℕ, zero, suc, ◌+◌, ◌<◌, ◌≤◌, List, [], ◌∷◌, ◌++◌, length, get_or, set, Bool, true, false, Option, Some, None, cond, arith, sym, ◌∙◌, ap, refl, subst, inl, inr, get_or-set_same, length-append, true≢false}
+use Rattle.std.proofs.Common.{◌≡◌, ℕ, ◌+◌, ◌<◌, List, [], ◌∷◌, ◌++◌, length, get_or, Bool, true, false, Option, Some, None, cond, arith, sym, ◌∙◌, ap, refl, inl, inr, get_or-set_same, length-append}
 use Rattle.am_base.specs.declared.outcome.Ending.{Ending}
 use Rattle.code_form.specs.declared.code.Code.{Code}
 use Rattle.change_set.specs.declared.change.Change.{Change}
-use Rattle.change_set.specs.declared.change.Control.{Control}
-use Rattle.change_set.specs.declared.change.Control.TheVariants.{Next, End}
-use Rattle.change_set.specs.State.{State, with_writes, with_bytes}
+use Rattle.change_set.specs.declared.change.Control.TheVariants.{Next}
+use Rattle.change_set.specs.State.{State, with_writes}
 use Rattle.change_set.specs.Straight.{write_of, end_change}
 use Rattle.change_set.specs.After.{after_change, frame_after, output_after, ending_after}
-use Rattle.change_set.specs.EqualChanges.{AreReal, IsSimple, IsStraightChange}
+use Rattle.change_set.proofs.ChangeShapes.{IsSimple, IsStraightChange}
 use Rattle.change_set.proofs.ByteLists.{determined}
 
 abbrev pub registers_have : List (Option ℕ) → Option ℕ → Type 0

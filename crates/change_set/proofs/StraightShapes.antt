@@ -1,7 +1,7 @@
 -- The change of an instruction that goes on at the next place or ends the run is a straight one.
-use Rattle.std.proofs.Common.{◌≡◌, ◌≢◌, ◌⊎◌, ℕ, pos, zero, suc, ◌+◌, ◌-◌, ◌*◌, ◌%◌, ◌/◌, ◌<◌, ◌≤◌, List, [], ◌∷◌, length, map, get_or, Bool, true, false, cond, Option, Some, None, Result, Ok, Err, slice_get, arith, sym, ◌∙◌, ap, refl, inl, inr, subst}
+use Rattle.std.proofs.Common.{◌≡◌, ℕ, pos, zero, suc, ◌+◌, ◌*◌, ◌%◌, ◌/◌, ◌≤◌, List, [], ◌∷◌, length, map, get_or, Bool, true, false, cond, Option, Some, None, Result, Ok, Err, slice_get, arith, sym, ap, refl, inl, inr, subst}
 use Rattle.std.proofs.lemmas.Bool.Decides.{nat_tests}
-use Rattle.std.specs.Prelude.{nat_le, nat_lt, ◌&&◌, ◌==◌, ◌^◌, ◌+ℤ◌, slice_range}
+use Rattle.std.specs.Prelude.{nat_le, nat_lt, ◌==◌, ◌^◌, ◌+ℤ◌, slice_range}
 use Rattle.std.proofs.lemmas.Option.{slice_get_within}
 use Rattle.am_base.specs.declared.outcome.Trap.{Trap}
 use Rattle.am_base.specs.declared.outcome.Trap.TheVariants.{UnsetRegister, MemoryFull, AddressRange, ConstantWrite, OutputFull, PortRefused, Abort as Aborted, Unreachable as NotReached}
@@ -24,10 +24,10 @@ use Rattle.code_form.specs.Sound.{InstrFits, CastFits, CallFits, Gives, GivesMay
 use Rattle.change_set.specs.declared.change.Change.{Change}
 use Rattle.change_set.specs.declared.change.Control.TheVariants.{Next}
 use Rattle.change_set.specs.State.{State}
-use Rattle.change_set.specs.Straight.{value_of, values_of, with_value, trap_change, end_change, word_change, result_change, write_of, load_change, store_change, alloca_change, differing, bytes_from, is_in_range, number_of, scaled_sum}
+use Rattle.change_set.specs.Straight.{value_of, values_of, with_value, trap_change, word_change, result_change, write_of, load_change, store_change, alloca_change, differing, bytes_from, is_in_range, number_of, scaled_sum}
 use Rattle.change_set.specs.Calls.{Answers, first_of, width_of_sign, answer_change, put_change, take_change, call_change}
 use Rattle.change_set.specs.Next.{next_of}
-use Rattle.change_set.specs.EqualChanges.{AreReal, IsSimple, IsStraightChange, IsNoFunction, StaysInBlock}
+use Rattle.change_set.proofs.ChangeShapes.{AreReal, IsStraightChange, IsNoFunction, StaysInBlock}
 use Rattle.change_set.proofs.StraightLaw.{registers_have}
 
 pub value_has : {X : Type 0} (P : Change → Type 0) (s : State) (o : Option X) (go : X → Change) → P (trap_change s UnsetRegister) → ((x : X) → P (go x)) → P (with_value s o go)

@@ -1,8 +1,15 @@
 pub mod Opening
-pub mod StraightRuns
+pub mod Steps
 pub mod Turns
 pub mod ExampleSound
 pub mod ExampleRows
 pub mod ExampleFits
 pub mod Numbers
+pub mod Wrapped
 pub mod StoreSteps
+pub mod FoundSpots
+pub mod WriteSteps
+pub mod CountedWords
+pub mod EnterSteps
+pub mod SoundTests
+pub mod RowsSound

@@ -1,6 +1,7 @@
-pub mod Narrow
 pub mod Ports
+pub mod Spots
 pub mod Operands
 pub mod Plain
 pub mod Running
 pub mod Example
+pub mod Rows

@@ -1,11 +1,30 @@
--- The changes that a run by itself applies today.
+-- When a run by itself can make a change.
+use Rattle.std.specs.Prelude.{◌≡◌, ℕ, ◌+◌, ◌^◌, ◌<◌, false, [], length, None}
+use Rattle.code_form.specs.declared.code.Code.{Code}
+use Rattle.code_form.specs.Places.{function_at}
+use Rattle.change_set.specs.declared.change.Change.{Change}
 use Rattle.change_set.specs.declared.change.Control.{Control}
 use Rattle.change_set.specs.declared.change.Control.TheVariants.{Next, Jump, Enter, Leave, End}
+use Rattle.change_set.specs.State.{State, words_of}
+use Rattle.plain_machine.specs.Operands.{CanGo}
 
--- the run goes on at the next place, or ends
-abbrev pub GoesOnOrEnds : Control → Type 0
-GoesOnOrEnds Next = Unit {0}
-GoesOnOrEnds (Jump b) = ⊥
-GoesOnOrEnds (Enter f) = ⊥
-GoesOnOrEnds Leave = ⊥
-GoesOnOrEnds (End ending) = Unit {0}
+-- no byte of memory changes, nothing is put out, and no input is used
+pub record IsQuiet (c : Change) : Type 0 where
+  pub bytes : c.bytes ≡ []
+  pub put : c.put ≡ None
+  pub took : c.took ≡ false
+
+-- a call can be made: the function is defined, has a block, and the registers of all frames can be counted
+pub record CanEnter (code : Code) (s : State) (f : ℕ) : Type 0 where
+  pub defined : f < length code.funcs
+  pub block : 0 < length (function_at code f).blocks
+  pub place : s.running.place + 1 < 2 ^ 32
+  pub words : words_of s + (function_at code f).registers < 2 ^ 32
+
+-- the control of the change leads somewhere
+abbrev pub CanApply : Code → State → Change → Control → Type 0
+CanApply code s c Next = (s.running.place + 1 < 2 ^ 32) × (s.position + 1 < 2 ^ 32)
+CanApply code s c (Jump b) = CanGo code s b × IsQuiet c
+CanApply code s c (Enter f) = CanEnter code s f × IsQuiet c
+CanApply code s c Leave = (0 < length s.callers) × IsQuiet c
+CanApply code s c (End ending) = IsQuiet c

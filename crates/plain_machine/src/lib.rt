@@ -2,9 +2,14 @@
 #![tactic(auto)]
 
 mod apply;
+mod call;
+mod edge;
+mod get;
 mod memory;
 mod outside;
+mod reads;
 mod run;
+mod spots;
 mod start;
 mod state;
 mod step;

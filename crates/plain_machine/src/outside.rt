@@ -1,4 +1,4 @@
-//! Calls of the four outside functions that every machine knows.
+//! Calls, and the four outside functions that every machine knows.
 ghost use Rattle.std.specs.Prelude.{◌≡◌, ◌<◌, ◌≤◌, [], ◌∷◌, length, IfOk};
 ghost use Rattle.change_set.specs.Straight.{value_of, values_of, with_value, end_change};
 ghost use Rattle.change_set.specs.Calls.{first_of, put_change, take_change, call_change};
@@ -8,6 +8,7 @@ ghost use Rattle.plain_machine.specs.Ports.{no_answers};
 ghost use Rattle.am_base.specs.declared.outcome.Ending.TheVariants.{Exit as Exited};
 ghost use Rattle.std.specs.Prelude.{slice_get};
 
+use crate::call::enter;
 use crate::state::FlatState;
 use crate::step::{ends, gives, traps, write};
 use am_base::{Ending, OutOfMemory, Trap};
@@ -25,12 +26,12 @@ fn put_char(alloc: Global, s: &FlatState, r: Option<u32>, a: Operand) -> Result<
     if s.output_len() >= 65536 {
         return Ok(traps(alloc, s, Trap::OutputFull));
     }
-    let byte = (x % 256) as u8;
+    let word = x % 256;
     Ok(Change {
-        writes: write(alloc, r, u64::from(byte))?,
+        writes: write(alloc, r, word)?,
         bytes: ByteWrites::new(alloc),
         top: s.top(),
-        put: Some(byte),
+        put: Some(word as u8),
         took: false,
         control: Control::Next,
     })
@@ -63,8 +64,8 @@ fn exit(alloc: Global, s: &FlatState, a: Operand) -> Change
     ends(alloc, s, Ending::Exit(x))
 }
 
-/// A call of an outside function.
-pub fn call_outside(
+/// A call of a function of the code or of an outside function.
+pub fn call(
     alloc: Global,
     code: &Code,
     s: &FlatState,
@@ -72,10 +73,11 @@ pub fn call_outside(
     callee: Callee,
     args: &[Operand],
 ) -> Result<Change, OutOfMemory>
-    requires { CanCall callee args.now }
+    requires { CanCall code.now callee args.now }
     ensures { IfOk result (λ c. c ≡ with_value s.now (values_of s.now args.now) (λ xs. call_change code.now no_answers s.now r callee xs)) }
 {
     match (callee, args) {
+        (Callee::Func(f), _) => enter(alloc, code, s, f, args),
         (Callee::PutChar, [a]) => put_char(alloc, s, r, *a),
         (Callee::Exit, [a]) => Ok(exit(alloc, s, *a)),
         (Callee::GetChar, []) => get_char(alloc, s, r),

@@ -1,17 +1,17 @@
 //! The state in which the run of a case begins.
-ghost use Rattle.std.specs.Prelude.{◌≡◌, ◌<◌, ◌≤◌, ◌-◌, ◌++◌, length, All, IfOk, replicate, None, Some, slice_get, unwrap_or};
-ghost use Rattle.code_form.specs.Places.{no_block};
+ghost use Rattle.std.specs.Prelude.{◌≡◌, ◌<◌, ◌≤◌, ◌-◌, ◌^◌, ◌++◌, length, All, IfOk, replicate, None};
 ghost use Rattle.code_form.specs.Sound.{IsSound};
 ghost use Rattle.code_form.specs.Fit.{FitsCase};
 ghost use Rattle.change_set.specs.State.{with_writes};
 ghost use Rattle.change_set.specs.Calls.{numbered};
 ghost use Rattle.change_set.specs.Start.{opening_frame, start_of, zeros};
 
+use crate::reads::{first_place, function};
 use crate::state::FlatState;
 use am_base::OutOfMemory;
 use am_lists::Items;
 use change_set::Frame;
-use code_form::{Case, Code, Func};
+use code_form::{Case, Code};
 use std::alloc::Global;
 
 /// What a list of bytes holds are bytes.
@@ -36,7 +36,8 @@ fn opening_registers(
     args: &[u64],
 ) -> Result<Items<Option<u64>>, OutOfMemory>
     requires { length args.now ≤ registers }
-    ensures { IfOk result (λ r. r ≡ with_writes (replicate registers None) (numbered 0 args.now)) }
+    ensures words { IfOk result (λ r. r ≡ with_writes (replicate registers None) (numbered 0 args.now)) }
+    ensures length { IfOk result (λ r. length r ≡ registers) }
 {
     let mut all = vec![in alloc; None; registers as usize]?;
     for (i, word) in args.iter().enumerate() {
@@ -45,29 +46,14 @@ fn opening_registers(
     Ok(Items::from_vec(all))
 }
 
-/// The function that a case runs.
-fn function_of_case<'a>(code: &'a Code, case: &Case) -> &'a Func
-    requires { case.now.function < length code.now.funcs }
-    ensures { slice_get code.now.funcs case.now.function ≡ Some result.now }
-{
-    &code.funcs.as_slice()[case.function as usize]
-}
-
-/// The first place of a function.
-fn first_place(f: &Func) -> u32
-    requires { 0 < length f.now.blocks }
-    ensures { result ≡ (unwrap_or (slice_get f.now.blocks 0) no_block).first }
-{
-    f.blocks.as_slice()[0].first
-}
-
 /// The frame in which the run of a case begins.
 fn first_frame(alloc: Global, code: &Code, case: &Case) -> Result<Frame, OutOfMemory>
     requires sound { IsSound code.now }
     requires case { FitsCase code.now case.now }
-    ensures { IfOk result (λ frame. frame ≡ opening_frame code.now case.now) }
+    ensures frame { IfOk result (λ frame. frame ≡ opening_frame code.now case.now) }
+    ensures few { IfOk result (λ frame. length frame.registers < 2 ^ 32) }
 {
-    let f = function_of_case(code, case);
+    let f = function(code, case.function);
     let registers = opening_registers(alloc, f.registers, case.args.as_slice())?;
     Ok(Frame {
         place: first_place(f),

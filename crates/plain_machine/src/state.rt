@@ -1,18 +1,24 @@
-ghost use Rattle.std.specs.Prelude.{◌≡◌, ◌<◌, ◌+◌, ◌^◌, ◌↔◌, IsTrue, [], length, slice_get, reverse, is_some, OnOk};
-ghost use Rattle.change_set.specs.State.{register};
+ghost use Rattle.std.specs.Prelude.{◌≡◌, ◌<◌, ◌+◌, ◌^◌, [], length, slice_get, reverse, is_some, OnOk, OnErr};
+ghost use Rattle.change_set.specs.State.{register, words_of};
 ghost use Rattle.change_set.specs.Straight.{value_of};
+ghost use Rattle.change_set.specs.After as spec;
 ghost use Rattle.change_set.specs.After.{after_change};
 ghost use Rattle.change_set.specs.Start.{opening_of};
 ghost use Rattle.change_set.specs.Machine.{outcome_at};
-ghost use Rattle.plain_machine.specs.Plain.{GoesOnOrEnds};
+ghost use Rattle.plain_machine.specs.Plain.{IsQuiet, CanApply};
+ghost use Rattle.plain_machine.specs.Spots.{AreSpots};
 
-use crate::apply::{moved_on, put_out, write_bytes, write_registers};
+use crate::apply::{frame_of_call, moved_on, put_out, write_bytes, write_registers};
+use crate::edge::entry_place;
+use crate::reads::result_register;
+use crate::spots::Spot;
 use am_base::{Ending, OutOfMemory, Outcome};
 use am_lists::{Bytes, Items};
 use change_set::{Change, Control, Frame};
 use code_form::{Code, Operand};
 use std::alloc::Global;
 use std::marker::Model;
+use std::mem;
 
 /// A state whose memory is one list of bytes. Contracts see a `State`.
 #[derive(Drop)]
@@ -20,6 +26,8 @@ pub struct FlatState {
     running: Frame,
     /// The newest last.
     callers: Vec<Frame>,
+    /// How many registers all frames have.
+    words: u32,
     bytes: Vec<u8>,
     top: u32,
     output: Bytes,
@@ -29,7 +37,7 @@ pub struct FlatState {
 }
 
 impl Model for FlatState {
-    ghost use Rattle.std.specs.Prelude.{reverse};
+    ghost use Rattle.std.specs.Prelude.{◌≡◌, ◌+◌, length, reverse, sum_by};
     ghost use Rattle.change_set.specs.State.{State};
 
     ghost Value = { State };
@@ -44,6 +52,8 @@ impl Model for FlatState {
       position = s.position;
       ending = s.ending;
     } };
+
+    ghost invariant = { λ s. s.words ≡ length s.running.registers + sum_by (λ f. length f.registers) s.callers.items };
 }
 
 impl FlatState {
@@ -55,11 +65,14 @@ impl FlatState {
         top: u32,
         input: Bytes,
     ) -> FlatState
+        requires { length running.registers < 2 ^ 32 }
         ensures { result ≡ opening_of running bytes.items top input }
     {
+        let words = running.registers.len() as u32;
         FlatState {
             running,
             callers: Vec::new(alloc),
+            words,
             bytes,
             top,
             output: Items::new(alloc),
@@ -76,6 +89,7 @@ impl FlatState {
         let FlatState {
             running: _,
             callers: _,
+            words: _,
             bytes: _,
             top: _,
             output,
@@ -110,11 +124,32 @@ impl FlatState {
         self.top
     }
 
-    /// Whether the running frame is the first one.
-    pub fn is_in_first_frame(&self) -> bool
-        ensures { IsTrue result ↔ (self.now.callers ≡ []) }
+    /// How many frames the running one has below it.
+    pub fn callers(&self) -> usize
+        ensures { result ≡ length self.now.callers }
     {
-        self.callers.is_empty()
+        self.callers.len()
+    }
+
+    /// How many registers all frames have.
+    pub fn words(&self) -> u32
+        ensures { result ≡ words_of self.now }
+    {
+        self.words
+    }
+
+    /// The register of the caller that gets the word that the running frame returns.
+    pub fn result(&self) -> Option<u32>
+        ensures { result ≡ self.now.running.result }
+    {
+        self.running.result
+    }
+
+    /// The stack top that a return from the running frame restores, a byte address.
+    pub fn restores(&self) -> u32
+        ensures { result ≡ self.now.running.restores }
+    {
+        self.running.restores
     }
 
     /// What a register of the running frame holds.
@@ -164,24 +199,106 @@ impl FlatState {
         }
     }
 
-    /// Makes a change that goes on at the next place or ends the run. It is refused only for want of memory.
-    pub fn apply(&mut self, code: &Code, c: Change) -> Result<(), OutOfMemory>
-        requires plain { GoesOnOrEnds c.control }
+    /// Makes a change that goes on at the next place.
+    fn go_on(&mut self, code: &Code, c: Change) -> Result<(), OutOfMemory>
+        requires control { c.control ≡ Control.Next }
         requires place { self.old.running.place + 1 < 2 ^ 32 }
         requires position { self.old.position + 1 < 2 ^ 32 }
-        ensures { OnOk result (self.new ≡ after_change code.now self.old c) }
+        ensures ok { OnOk result (self.new ≡ after_change code.now self.old c) }
+        ensures err { OnErr result (self.new ≡ self.old) }
     {
+        put_out(&mut self.output, c.put)?;
         write_bytes(&mut self.bytes, c.bytes.as_slice());
         self.top = c.top;
-        put_out(&mut self.output, c.put)?;
         self.position = moved_on(self.position, c.took);
+        write_registers(&mut self.running.registers, c.writes.as_slice());
+        self.running.place += 1;
+        Ok(())
+    }
+
+    /// Makes a change that goes to a block, whose first place after its `phi` is given.
+    fn go_to(&mut self, code: &Code, c: Change, b: u32, place: u32)
+        requires control { c.control ≡ Control.Jump b }
+        requires quiet { IsQuiet c }
+        requires place { place ≡ spec.entry_place code.now self.old.running.place b }
+        ensures { self.new ≡ after_change code.now self.old c }
+    {
+        self.top = c.top;
+        write_registers(&mut self.running.registers, c.writes.as_slice());
+        self.running.place = place;
+    }
+
+    /// Makes a change that enters a function, in the frame that is given.
+    fn enter(&mut self, code: &Code, c: Change, f: u32, frame: Frame) -> Result<(), OutOfMemory>
+        requires control { c.control ≡ Control.Enter f }
+        requires quiet { IsQuiet c }
+        requires frame { frame ≡ spec.frame_of_call code.now self.old f c.writes }
+        requires place { self.old.running.place + 1 < 2 ^ 32 }
+        requires words { words_of self.old + length frame.registers < 2 ^ 32 }
+        ensures ok { OnOk result (self.new ≡ after_change code.now self.old c) }
+        ensures err { OnErr result (self.new ≡ self.old) }
+    {
+        let registers = frame.registers.len() as u32;
+        let newest = self.callers.len();
+        self.callers.push(frame)?;
+        self.running.place += 1;
+        mem::swap(&mut self.running, &mut self.callers[newest]);
+        self.words += registers;
+        self.top = c.top;
+        Ok(())
+    }
+
+    /// Makes a change that returns to the caller.
+    fn leave(&mut self, code: &Code, c: Change)
+        requires control { c.control ≡ Control.Leave }
+        requires quiet { IsQuiet c }
+        requires called { 0 < length self.old.callers }
+        ensures { self.new ≡ after_change code.now self.old c }
+    {
+        self.top = c.top;
+        if let Some(caller) = self.callers.pop() {
+            self.words -= self.running.registers.len() as u32;
+            self.running = caller;
+            write_registers(&mut self.running.registers, c.writes.as_slice());
+        }
+    }
+
+    /// Makes a change that ends the run.
+    fn end(&mut self, code: &Code, c: Change, ending: Ending)
+        requires control { c.control ≡ Control.End ending }
+        requires quiet { IsQuiet c }
+        ensures { self.new ≡ after_change code.now self.old c }
+    {
+        self.top = c.top;
+        self.ending = Some(ending);
+    }
+
+    /// Makes a change. It is refused only for want of memory, and then the state is as it was.
+    pub fn apply(
+        &mut self,
+        alloc: Global,
+        code: &Code,
+        spots: &[Spot],
+        c: Change,
+    ) -> Result<(), OutOfMemory>
+        requires spots { AreSpots code.now spots.now }
+        requires can { CanApply code.now self.old c c.control }
+        ensures ok { OnOk result (self.new ≡ after_change code.now self.old c) }
+        ensures err { OnErr result (self.new ≡ self.old) }
+    {
         match c.control {
-            Control::Next => {
-                write_registers(&mut self.running.registers, c.writes.as_slice());
-                self.running.place += 1;
+            Control::Next => self.go_on(code, c)?,
+            Control::Jump(b) => {
+                let place = entry_place(code, spots, self.running.place, b);
+                self.go_to(code, c, b, place);
             }
-            Control::End(ending) => self.ending = Some(ending),
-            _ => unreachable!(),
+            Control::Enter(f) => {
+                let register = result_register(code, self.running.place);
+                let frame = frame_of_call(alloc, code, f, c.writes.as_slice(), register, self.top)?;
+                self.enter(code, c, f, frame)?;
+            }
+            Control::Leave => self.leave(code, c),
+            Control::End(ending) => self.end(code, c, ending),
         }
         Ok(())
     }

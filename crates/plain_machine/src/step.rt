@@ -1,12 +1,17 @@
 //! The change of each instruction.
-ghost use Rattle.std.specs.Prelude.{◌≡◌, [], IfOk, Some};
+ghost use Rattle.std.specs.Prelude.{◌≡◌, IfOk};
 ghost use Rattle.change_set.specs.Straight.{write_of, end_change, trap_change, word_change};
-ghost use Rattle.change_set.specs.Next.{bin_change, cmp_change, select_change, cast_change, freeze_change, ret_change, next_of};
+ghost use Rattle.change_set.specs.Next.{bin_change, cmp_change, select_change, cast_change, freeze_change, next_of};
 ghost use Rattle.plain_machine.specs.Operands.{HoldsWord, CanStep};
 ghost use Rattle.plain_machine.specs.Ports.{no_answers};
+ghost use Rattle.plain_machine.specs.Spots.{AreSpots};
 
+use crate::call::ret;
+use crate::edge::{branch, jump, switch};
+use crate::get::get;
 use crate::memory::{alloca, load, store};
-use crate::outside::call_outside;
+use crate::outside::call;
+use crate::spots::Spot;
 use crate::state::FlatState;
 use am_base::{BinOp, Cast, Ending, OutOfMemory, Pred, Trap, Width, binary, compare, convert};
 use change_set::{ByteWrites, Change, Control, RegisterWrites};
@@ -52,6 +57,7 @@ pub fn ends(alloc: Global, s: &FlatState, ending: Ending) -> Change
     }
 }
 
+/// The run ends by a trap, and nothing else changes.
 pub fn traps(alloc: Global, s: &FlatState, trap: Trap) -> Change
     ensures { result ≡ trap_change s.now trap }
 {
@@ -154,30 +160,17 @@ fn freeze(alloc: Global, s: &FlatState, r: Option<u32>, a: Operand) -> Result<Ch
     gives(alloc, s, r, x)
 }
 
-/// A return from the first frame, which ends the run.
-fn ret(alloc: Global, s: &FlatState, a: Option<Operand>) -> Change
-    requires { s.now.callers ≡ [] }
-    ensures { result ≡ ret_change s.now a }
-{
-    let Some(a) = a else {
-        return ends(alloc, s, Ending::Return(None));
-    };
-    let Some(x) = s.value(a) else {
-        return traps(alloc, s, Trap::UnsetRegister);
-    };
-    ends(alloc, s, Ending::Return(Some(x)))
-}
-
 /// The change that an instruction makes. `r` is the register of its place.
 pub fn step(
     alloc: Global,
     code: &Code,
+    spots: &[Spot],
     s: &FlatState,
     r: Option<u32>,
     i: &Instr,
 ) -> Result<Change, OutOfMemory>
-    requires operands { CanStep s.now i.now }
-    requires first { s.now.callers ≡ [] }
+    requires spots { AreSpots code.now spots.now }
+    requires operands { CanStep code.now s.now i.now }
     ensures { IfOk result (λ change. change ≡ next_of code.now no_answers s.now r i.now) }
 {
     match i {
@@ -189,9 +182,14 @@ pub fn step(
         Instr::Alloca(size, align, count) => alloca(alloc, s, r, *size, *align, *count),
         Instr::Load(w, a) => load(alloc, s, r, *w, *a),
         Instr::Store(w, a, b) => store(alloc, code, s, *w, *a, *b),
-        Instr::Call(callee, args) => call_outside(alloc, code, s, r, *callee, args.as_slice()),
-        Instr::Ret(a) => Ok(ret(alloc, s, *a)),
+        Instr::Get(a, literal, indices) => get(alloc, s, r, *a, *literal, indices.as_slice()),
+        Instr::Call(callee, args) => call(alloc, code, s, r, *callee, args.as_slice()),
+        Instr::Jump(b) => jump(alloc, code, spots, s, *b),
+        Instr::Branch(c, b, d) => branch(alloc, code, spots, s, *c, *b, *d),
+        Instr::Switch(_, a, other, cases) => {
+            switch(alloc, code, spots, s, *a, *other, cases.as_slice())
+        }
+        Instr::Ret(a) => ret(alloc, s, *a),
         Instr::Phi(_) | Instr::Unreachable => Ok(traps(alloc, s, Trap::Unreachable)),
-        _ => unreachable!(),
     }
 }

@@ -1,8 +1,11 @@
 ghost use Rattle.std.specs.Prelude.{◌≡◌, ◌<◌, ◌≤◌, ◌^◌, IfOk, [], ◌∷◌};
 ghost use Rattle.code_form.specs.Variant.{mutants_of};
 ghost use Rattle.code_form.specs.Fit.{FitsTable};
-ghost use Rattle.plain_machine.specs.Narrow.{IsStraightLine};
 ghost use Rattle.plain_machine.specs.Example.{IsExample, example_func, example_case};
+
+mod memory;
+mod outside;
+mod rows;
 
 use crate::run::run_alone;
 use am_base::{BinOp, Ending, OutOfMemory, Pred, Width};
@@ -63,7 +66,6 @@ fn with_sub(alloc: Global, code: &Code) -> Result<Variants, OutOfMemory>
     requires { IsExample code.now }
     ensures mutants { IfOk result (λ table. mutants_of table ≡ 2) }
     ensures table { IfOk result (FitsTable code.now) }
-    ensures straight { IfOk result (IsStraightLine code.now) }
 {
     let mut variants = Variants::new(alloc, 2)?;
     let with = Instr::Bin(BinOp::Sub, W, Operand::Reg(0), Operand::Reg(1));
@@ -82,7 +84,6 @@ fn ends(
 ) -> Result<(Ending, u64), OutOfMemory>
     requires example { IsExample code.now }
     requires table { FitsTable code.now variants.now }
-    requires straight { IsStraightLine code.now variants.now }
     requires mutant { m < mutants_of variants.now }
     requires first { args.0 < 2 ^ 32 }
     requires second { args.1 < 2 ^ 32 }

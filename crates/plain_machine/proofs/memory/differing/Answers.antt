@@ -1,7 +1,6 @@
-use Rattle.std.proofs.Common.{◌≡◌, ℕ, List, [], ◌∷◌, ◌++◌, ◌+◌, ◌%◌, ◌/◌, ◌-◌, get_or, arith, ◌<◌}
+use Rattle.std.proofs.Common.{ℕ, List, ◌+◌, ◌%◌, arith, ◌<◌}
 use Rattle.std.specs.List.{All}
 use Rattle.std.proofs.lemmas.List.Elements.{All-push, All-weaker}
-use Rattle.change_set.specs.Straight.{bytes_from, differing}
 use Rattle.plain_machine.proofs.StoreSteps.{stored, skipped}
 use Rattle.plain_machine.proofs.memory.differing.Goals as goal
 use Rattle.plain_machine.proofs.memory.differing.Goals.{then-bytes-at+in_ok-push, else-bytes-at}

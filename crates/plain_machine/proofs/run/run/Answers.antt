@@ -1,13 +1,13 @@
-use Rattle.std.proofs.Common.{◌≡◌, ◌+◌, ◌-◌, ◌<◌, suc, false, length, None, arith, sym, ap, ◌∙◌, subst}
+use Rattle.std.proofs.Common.{◌≡◌, ◌+◌, ◌-◌, suc, false, arith, sym, ap, ◌∙◌, subst}
 use Rattle.std.specs.Prelude.{is_some}
 use Rattle.code_form.specs.Variant.{variant_of}
 use Rattle.change_set.specs.declared.change.Change.{Change}
 use Rattle.change_set.specs.After.{after_change}
 use Rattle.change_set.specs.Machine.{trial_of}
 use Rattle.plain_machine.specs.Ports.{no_answers}
-use Rattle.plain_machine.specs.Plain.{GoesOnOrEnds}
+use Rattle.plain_machine.specs.Plain.{CanApply}
 use Rattle.plain_machine.specs.Running.{IsRunning}
-use Rattle.plain_machine.proofs.StraightRuns.{variant_plain, variant_runs, place_inside}
+use Rattle.plain_machine.proofs.Steps.{variant_applies, variant_runs}
 use Rattle.plain_machine.proofs.Turns.{state_over, length_over, state_spent, length_spent, state_more, length_more}
 use Rattle.plain_machine.proofs.run.run.Goals as goal
 
@@ -32,21 +32,11 @@ returns-clause-length c =
     let all : c.loop-i.i ≡ _ = length_spent T c.args.m (c.args.case.now.budget - c.loop-i.i) c.loop-i.s c.loop-i.i _ (omega arith) c.loop-i.invariant.length in
     omega (arith, all)
 
-pub apply-requires-clause-plain : goal.apply-requires-clause-plain
-apply-requires-clause-plain c =
+pub apply-requires-clause-can : goal.apply-requires-clause-can
+apply-requires-clause-can c =
     let v = variant_of c.args.variants.now c.args.m c.loop-i.s.running.place in
-    let P : Change → Type 0 = λ d. GoesOnOrEnds d.control in
-    subst P (sym c.in_ok-change.ensures) (variant_plain c.args.code.now c.args.variants.now c.requires.sound c.requires.table c.requires.straight c.loop-i.s c.loop-i.invariant.running v)
-
-pub apply-requires-clause-place : goal.apply-requires-clause-place
-apply-requires-clause-place c =
-    let inside : c.loop-i.s.running.place < length c.args.code.now.instrs = place_inside c.args.code.now c.loop-i.s c.requires.sound c.loop-i.invariant.running in
-    omega (arith, c.requires.sound.few_instrs)
-
-pub apply-requires-clause-position : goal.apply-requires-clause-position
-apply-requires-clause-position c =
-    let sound = c.loop-i.invariant.running.sound in
-    omega (arith, sound.position, sound.input)
+    let P : Change → Type 0 = λ d. CanApply c.args.code.now c.loop-i.s d d.control in
+    subst P (sym c.in_ok-change.ensures) (variant_applies c.args.code.now c.args.variants.now c.requires.sound c.requires.no_ports c.requires.table c.loop-i.s c.loop-i.invariant.running v)
 
 pub loop-i-preserved : goal.loop-i-preserved
 loop-i-preserved c =
@@ -56,10 +46,10 @@ loop-i-preserved c =
     let more : c.args.case.now.budget - c.loop-i.i ≡ suc (c.args.case.now.budget - (c.loop-i.i + 1)) = omega arith in
     let lives : is_some c.loop-i.s.ending ≡ false = sym c.has_ended.ensures ∙ c.if-has_ended.false in
     let v = variant_of c.args.variants.now c.args.m c.loop-i.s.running.place in
-    let runs = variant_runs c.args.code.now c.args.variants.now c.requires.sound c.requires.table c.requires.straight c.loop-i.s c.loop-i.invariant.running v in
-    let leads = c.in_ok-apply.ensures ∙ ap (after_change c.args.code.now c.loop-i.s) c.in_ok-change.ensures in
+    let runs = variant_runs c.args.code.now c.args.variants.now c.requires.sound c.requires.no_ports c.requires.table c.loop-i.s c.loop-i.invariant.running v in
+    let leads = c.in_ok-apply.ensures.ok ∙ ap (after_change c.args.code.now c.loop-i.s) c.in_ok-change.ensures in
     record {
-      state = state_more T c.args.m n k c.loop-i.s c.apply.new.self c.in_ok-change.change more lives c.in_ok-change.ensures c.in_ok-apply.ensures _ c.loop-i.invariant.state;
-      length = length_more T c.args.m n k c.loop-i.s c.apply.new.self c.in_ok-change.change more lives c.in_ok-change.ensures c.in_ok-apply.ensures c.loop-i.i _ c.loop-i.invariant.length;
+      state = state_more T c.args.m n k c.loop-i.s c.apply.new.self c.in_ok-change.change more lives c.in_ok-change.ensures c.in_ok-apply.ensures.ok _ c.loop-i.invariant.state;
+      length = length_more T c.args.m n k c.loop-i.s c.apply.new.self c.in_ok-change.change more lives c.in_ok-change.ensures c.in_ok-apply.ensures.ok c.loop-i.i _ c.loop-i.invariant.length;
       running = subst (IsRunning c.args.code.now) (sym leads) runs;
     }

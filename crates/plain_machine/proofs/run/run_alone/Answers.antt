@@ -1,4 +1,4 @@
-use Rattle.plain_machine.proofs.StraightRuns.{start_running}
+use Rattle.plain_machine.proofs.Steps.{start_running}
 use Rattle.plain_machine.proofs.run.run_alone.Goals as goal
 
 pub run-requires-clause-running : goal.run-requires-clause-running

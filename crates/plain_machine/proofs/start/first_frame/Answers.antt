@@ -1,7 +1,13 @@
-use Rattle.std.proofs.Common.{length, ap, arith}
+use Rattle.std.proofs.Common.{◌≡◌, length, sym, ap, ◌∙◌, arith}
+use Rattle.std.specs.Prelude.{unwrap_or}
+use Rattle.code_form.specs.declared.code.Func.{Func}
+use Rattle.code_form.specs.Places.{no_function}
+use Rattle.change_set.proofs.FoundPlaces.{some_at}
 use Rattle.change_set.proofs.StartStates.{arguments_fit}
 use Rattle.plain_machine.proofs.start.first_frame.Goals as goal
 
 pub opening_registers-requires : goal.opening_registers-requires
 opening_registers-requires c =
-    omega (arith, ap length c.as_slice.ensures, arguments_fit c.args.code.now c.args.case.now c.function_of_case-f.result.now c.requires.sound c.requires.case c.function_of_case-f.ensures)
+    let f = some_at c.args.code.now.funcs c.args.case.now.function c.requires.case.defined in
+    let registers : f.0.registers ≡ c.function-f.result.now.registers = ap (λ (g : Func). g.registers) (sym (ap (λ o. unwrap_or o no_function) f.1) ∙ sym c.function-f.ensures) in
+    omega (arith, ap length c.as_slice.ensures, registers, arguments_fit c.args.code.now c.args.case.now f.0 c.requires.sound c.requires.case f.1)

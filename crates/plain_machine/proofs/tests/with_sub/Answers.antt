@@ -1,11 +1,7 @@
-use Rattle.plain_machine.proofs.ExampleFits.{none_fits, sub_fits, sub_straight}
+use Rattle.plain_machine.proofs.ExampleFits.{none_fits, sub_fits}
 use Rattle.plain_machine.proofs.tests.with_sub.Goals as goal
 
 pub returns-clause-table : goal.returns-clause-table
 returns-clause-table c =
     let old = none_fits c.args.code.now c.in_ok-variants.variants c.in_ok-variants.ensures.nothing_mentioned in
     c.in_ok-add.ensures.fits old (sub_fits c.args.code.now c.requires)
-
-pub returns-clause-straight : goal.returns-clause-straight
-returns-clause-straight c =
-    sub_straight c.args.code.now c.in_ok-variants.variants c.add.new.self c.requires c.in_ok-variants.ensures.nothing_mentioned c.in_ok-add.ensures.added

@@ -1,0 +1,9 @@
+use Rattle.std.proofs.Common.{◌≡◌, drop}
+use Rattle.std.specs.Option.{option_map}
+use Rattle.change_set.specs.Straight.{values_of}
+use Rattle.change_set.specs.Calls.{numbered}
+use Rattle.plain_machine.proofs.WriteSteps.{after_front}
+use Rattle.plain_machine.proofs.call.argument_writes.Given as goal
+
+abbrev pub invariant-loop-i : goal.invariant-loop-i
+invariant-loop-i l = after_front l.writes (option_map (numbered l.i) (values_of l.s (drop l.i l.args))) ≡ option_map (numbered 0) (values_of l.s l.args)
