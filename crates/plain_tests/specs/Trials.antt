@@ -1,0 +1,173 @@
+-- The modules that the tests run, as codes.
+use Rattle.std.specs.Prelude.{◌≡◌, ℕ, ◌+◌, List, [], ◌∷◌, ◌++◌, length, map, replicate, Option, Some, None}
+use Rattle.am_base.specs.declared.word.Width.TheVariants.{W8, W32, W64}
+use Rattle.am_base.specs.declared.word.BinOp.TheVariants.{Add, SDiv, Shl}
+use Rattle.am_base.specs.declared.word.Cast.TheVariants.{Trunc, SExt, PtrToInt, IntToPtr}
+use Rattle.code_form.specs.declared.instr.Operand.TheVariants.{Reg, Word}
+use Rattle.code_form.specs.declared.instr.Callee.TheVariants.{Func as CallFunc, PutChar, GetChar, Exit}
+use Rattle.code_form.specs.declared.instr.Instr.{Instr}
+use Rattle.code_form.specs.declared.instr.Instr.TheVariants.{Bin, Cast, Freeze, Alloca, Load, Store, Call, Ret, Unreachable}
+use Rattle.code_form.specs.declared.code.TyScalar.{TyScalar}
+use Rattle.code_form.specs.declared.code.TyScalar.TheVariants.{Int, Ptr}
+use Rattle.code_form.specs.declared.code.Func.{Func}
+use Rattle.code_form.specs.declared.code.Code.{Code}
+use Rattle.code_form.specs.declared.case.Case.{Case}
+use Rattle.traces.specs.Together.{below}
+
+-- a function of one block: its name has one letter
+abbrev pub func_of : ℕ → List TyScalar → Option TyScalar → ℕ → List TyScalar → ℕ → ℕ → Func
+func_of name params result registers types first len =
+    record { name = name ∷ []; params = params; result = result; registers = registers; types = types; blocks = record { first = first; len = len } ∷ [] }
+
+abbrev pub funcs : List Func
+funcs =
+    func_of 103 [] (Some (Int W32)) 3 (Ptr ∷ Ptr ∷ Int W32 ∷ []) 0 5
+    ∷ func_of 100 (Int W32 ∷ []) (Some (Int W32)) 2 (Int W32 ∷ Int W32 ∷ []) 5 2
+    ∷ func_of 119 (Int W64 ∷ []) (Some (Int W64)) 4 (Int W64 ∷ Ptr ∷ Ptr ∷ Int W64 ∷ []) 7 5
+    ∷ func_of 115 (Int W32 ∷ Int W32 ∷ []) (Some (Int W32)) 3 (Int W32 ∷ Int W32 ∷ Int W32 ∷ []) 12 2
+    ∷ func_of 112 [] None 1 (Int W32 ∷ []) 14 2
+    ∷ func_of 109 [] None 1 (Ptr ∷ []) 16 2
+    ∷ func_of 99 (Int W32 ∷ []) (Some (Int W64)) 6 (Int W32 ∷ Int W32 ∷ Int W8 ∷ Int W64 ∷ Ptr ∷ Int W64 ∷ []) 18 6
+    ∷ func_of 101 [] None 1 (Int W32 ∷ []) 24 3
+    ∷ []
+
+--     define i32 @g() {
+--       %p = alloca i32
+--       %q = alloca i32
+--       store i32 0, ptr %p
+--       %r = load i32, ptr %p
+--       ret i32 %r
+--     }
+abbrev pub stores_zero : List Instr
+stores_zero = Alloca 4 4 (Word 1) ∷ Alloca 4 4 (Word 1) ∷ Store W32 (Word 0) (Reg 0) ∷ Load W32 (Reg 0) ∷ Ret (Some (Reg 2)) ∷ []
+
+--     define i32 @d(i32 %a) {
+--       %q = sdiv i32 %a, 2
+--       ret i32 %q
+--     }
+abbrev pub divides : List Instr
+divides = Bin SDiv W32 (Reg 0) (Word 2) ∷ Ret (Some (Reg 1)) ∷ []
+
+--     define i64 @w(i64 %v) {
+--       %a = alloca [1020 x i8]
+--       %p = alloca [16 x i8]
+--       store i64 %v, ptr %p
+--       %x = load i64, ptr %p
+--       ret i64 %x
+--     }
+abbrev pub crosses_a_page : List Instr
+crosses_a_page = Alloca 1020 1 (Word 1) ∷ Alloca 16 1 (Word 1) ∷ Store W64 (Reg 0) (Reg 2) ∷ Load W64 (Reg 2) ∷ Ret (Some (Reg 3)) ∷ []
+
+--     define i32 @s(i32 %a, i32 %n) {
+--       %x = shl i32 %a, %n
+--       ret i32 %x
+--     }
+abbrev pub shifts : List Instr
+shifts = Bin Shl W32 (Reg 0) (Reg 1) ∷ Ret (Some (Reg 2)) ∷ []
+
+--     define void @p() {
+--       %1 = call i32 @putchar(i32 65)
+--       ret void
+--     }
+abbrev pub puts : List Instr
+puts = Call PutChar (Word 65 ∷ []) ∷ Ret None ∷ []
+
+--     define void @m() {
+--       %p = alloca [1048576 x i8]
+--       ret void
+--     }
+abbrev pub takes_all : List Instr
+takes_all = Alloca 1048576 1 (Word 1) ∷ Ret None ∷ []
+
+--     define i64 @c(i32 %a) {
+--       %b = freeze i32 %a
+--       %l = trunc i32 %b to i8
+--       %s = sext i8 %l to i64
+--       %p = inttoptr i64 %s to ptr
+--       %x = ptrtoint ptr %p to i64
+--       ret i64 %x
+--     }
+abbrev pub converts : List Instr
+converts = Freeze (Reg 0) ∷ Cast Trunc W32 W8 (Reg 1) ∷ Cast SExt W8 W64 (Reg 2) ∷ Cast IntToPtr W64 W64 (Reg 3) ∷ Cast PtrToInt W64 W64 (Reg 4) ∷ Ret (Some (Reg 5)) ∷ []
+
+--     define void @e() {
+--       %c = call i32 @getchar()
+--       call void @exit(i32 %c)
+--       unreachable
+--     }
+abbrev pub exits : List Instr
+exits = Call GetChar [] ∷ Call Exit (Reg 0 ∷ []) ∷ Unreachable ∷ []
+
+abbrev pub results : List (Option ℕ)
+results =
+    Some 0 ∷ Some 1 ∷ None ∷ Some 2 ∷ None
+    ∷ Some 1 ∷ None
+    ∷ Some 1 ∷ Some 2 ∷ None ∷ Some 3 ∷ None
+    ∷ Some 2 ∷ None
+    ∷ Some 0 ∷ None
+    ∷ Some 0 ∷ None
+    ∷ Some 1 ∷ Some 2 ∷ Some 3 ∷ Some 4 ∷ Some 5 ∷ None
+    ∷ Some 0 ∷ None ∷ None
+    ∷ []
+
+-- the code of all of them
+abbrev pub trials : List ℕ → Code
+trials memory = record {
+  funcs = funcs;
+  instrs = stores_zero ++ (divides ++ (crosses_a_page ++ (shifts ++ (puts ++ (takes_all ++ (converts ++ exits))))));
+  results = results;
+  memory = memory;
+  const_end = 1024;
+  stack_base = 1024;
+  signs = [];
+}
+
+-- a call of one of the functions
+abbrev pub case_of : ℕ → List ℕ → List ℕ → Case
+case_of function args input = record { function = function; args = args; input = input; budget = 1000000 }
+
+--     define i32 @q(i32 %n) {
+--       %x1 = add i32 %n, 1
+--       ..
+--       %x63 = add i32 %n, 1
+--       %r = call i32 @q(i32 %n)
+--       ret i32 %r
+--     }
+abbrev pub deep_func : Func
+deep_func = func_of 113 (Int W32 ∷ []) (Some (Int W32)) 65 (replicate 65 (Int W32)) 0 65
+
+abbrev pub adds_one : Instr
+adds_one = Bin Add W32 (Reg 0) (Word 1)
+
+abbrev pub deep : List ℕ → Code
+deep memory = record {
+  funcs = deep_func ∷ [];
+  instrs = replicate 63 adds_one ++ (Call (CallFunc 0) (Reg 0 ∷ []) ∷ Ret (Some (Reg 64)) ∷ []);
+  results = map (λ k. Some (k + 1)) (below 64) ++ (None ∷ []);
+  memory = memory;
+  const_end = 1024;
+  stack_base = 1024;
+  signs = [];
+}
+
+--     @k = constant i64 0
+--     @v = global i64 0
+--     define void @k() {
+--       store i8 1, ptr getelementptr (i8, ptr @k, i64 7)
+--       ret void
+--     }
+abbrev pub constants : List ℕ → Code
+constants memory = record {
+  funcs = func_of 107 [] None 0 [] 0 2 ∷ [];
+  instrs = Store W8 (Word 1) (Word 1031) ∷ Ret None ∷ [];
+  results = None ∷ None ∷ [];
+  memory = memory;
+  const_end = 1032;
+  stack_base = 1040;
+  signs = [];
+}
+
+-- the code is this one, with its opening bytes
+pub record IsCode (of : List ℕ → Code) (code : Code) : Type 0 where
+  pub is : code ≡ of code.memory
+  pub memory : length code.memory ≡ code.stack_base
