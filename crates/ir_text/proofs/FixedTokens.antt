@@ -1,0 +1,266 @@
+-- The spellings of a canonical text are tokens, wherever a token of their kind may end.
+use Rattle.std.proofs.Common.{◌≡◌, ℕ, suc, ◌+◌, ◌^◌, ◌<◌, ◌≤◌, ◌⊎◌, inl, inr, Bool, true, false, not, ◌&&◌, ◌||◌, [], ◌∷◌, ◌++◌, length, decimal, ℤ, pos, negsuc, codes, Some, refl, ap, ◌∙◌, arith}
+use Rattle.std.specs.Char.{is_ascii_digit}
+use Rattle.std.specs.List.{list_all}
+use Rattle.std.proofs.lemmas.Bool.{and_parts, and_from, or_parts, or_left, or_right, not-true, lt-ltb, ltb-true, cond_both, false_from_ne_true}
+use Rattle.std.proofs.lemmas.List.{length-append, append_assoc}
+use Rattle.am_base.specs.declared.word.Width.{Width}
+use Rattle.am_base.specs.declared.word.Width.TheVariants as width
+use Rattle.am_base.specs.declared.word.BinOp.{BinOp}
+use Rattle.am_base.specs.declared.word.BinOp.TheVariants as binary
+use Rattle.am_base.specs.declared.word.Cast.{Cast}
+use Rattle.am_base.specs.declared.word.Cast.TheVariants as cast
+use Rattle.am_base.specs.declared.word.Pred.{Pred}
+use Rattle.am_base.specs.declared.word.Pred.TheVariants as pred
+use Rattle.ir_form.specs.Bytes.{Text, Each, NotFirst, is_quote, is_colon, is_run_byte}
+use Rattle.ir_form.specs.Tokens.{IsSomeRun, IsDigits, IsSmallNumber, IsName, IsLabelName, IsToken}
+use Rattle.ir_form.specs.Front.{begins, is_digits, is_small_number, is_label_name, quoted_len, behind_mark, is_c, run_kind, run_token, quoted_token, marked_token, token}
+use Rattle.ir_form.specs.declared.token.TokenKind.{TokenKind}
+use Rattle.ir_form.specs.declared.token.TokenKind.TheVariants as kind
+use Rattle.ir_form.proofs.Spelled.{is_digits-IsDigits, IsDigits-is_digits, IsSmallNumber-is_small_number}
+use Rattle.ir_form.proofs.Reached.{token-run, token-quoted, name_len-IsName, quoted_len-IsQuoted}
+use Rattle.ir_form.proofs.Longest.{IsToken-token}
+use Rattle.ir_tree.specs.declared.name.Name.{Name}
+use Rattle.ir_tree.specs.declared.name.Name.TheVariants as name
+use Rattle.ir_text.specs.Spelling as canon
+use Rattle.ir_text.specs.Spelling.{in_quotes, is_run, is_plain, is_plain_label, spelled_name}
+use Rattle.ir_text.proofs.Back.{goes_on, Fixed}
+use Rattle.ir_text.proofs.Values.{IsKept, IsWide, decimal-IsDigits, decimal-value, decimal-is_digits, quoted-IsQuoted}
+
+-- ---- what doesn't go on
+
+ends-run : (rest : Text) → NotFirst goes_on rest → NotFirst is_run_byte rest
+ends-run [] h = tt
+ends-run (b ∷ rest) h = (or_parts _ _ (or_parts (is_run_byte b || is_quote b) _ h).0).0
+
+ends-colon : (rest : Text) → NotFirst goes_on rest → begins is_colon rest ≡ false
+ends-colon [] h = refl
+ends-colon (b ∷ rest) h = (or_parts (is_run_byte b || is_quote b) _ h).1
+
+ends-quote : (rest : Text) → NotFirst goes_on rest → quoted_len rest ≡ 0
+unfolding quoted_len
+ends-quote [] h = refl
+ends-quote (b ∷ rest) h = let no = (or_parts (is_run_byte b) (is_quote b) (or_parts (is_run_byte b || is_quote b) _ h).0).1 in rw no refl
+
+some_run : (s rest : Text) → 0 < length s → Each is_run_byte s → NotFirst goes_on rest → IsSomeRun is_run_byte s rest
+some_run s rest some each h = record { some = some; run = record { whole = each; ends = ends-run rest h } }
+
+-- ---- runs
+
+and-no : (b : Bool) → (b && false) ≡ false
+and-no true = refl
+and-no false = refl
+
+run_token-ends : (s rest : Text) → NotFirst goes_on rest → run_token s rest ≡ (run_kind s, length s)
+unfolding run_token
+run_token-ends s rest h = let no = ends-quote rest h in rw (ends-colon rest h, no, and-no (is_c s)) refl
+
+run-token : (k : TokenKind) (s rest : Text) → run_kind s ≡ k → 0 < length s → Each is_run_byte s → NotFirst goes_on rest → IsToken k s rest
+run-token k s rest e some each h = IsToken-token k s rest (token-run s rest (some_run s rest some each h) ∙ ap (λ t. Some t) (run_token-ends s rest h) ∙ ap (λ v. Some (v, length s)) e)
+
+-- a word that a test computes
+pub word-fixed : (s : Text) → list_all is_run_byte s ≡ true → 0 < length s → run_kind s ≡ kind.Word → Fixed (canon.word s)
+word-fixed s each some e rest h = run-token kind.Word s rest e some each h
+
+digit-run_byte : (b : ℕ) → is_ascii_digit b ≡ true → is_run_byte b ≡ true
+digit-run_byte b e = or_left _ _ (or_left _ _ (or_left _ _ e))
+
+digits-run : (s : Text) → Each is_ascii_digit s → Each is_run_byte s
+digits-run [] h = refl
+digits-run (b ∷ s) h = let both = and_parts (is_ascii_digit b) (list_all is_ascii_digit s) h in and_from _ _ (digit-run_byte b both.0) (digits-run s both.1)
+
+number-kind : (s : Text) → is_digits s ≡ true → run_kind s ≡ kind.Number
+number-kind [] d = cc
+number-kind (b ∷ s) d = rw (or_left (is_digits (b ∷ s)) _ d) refl
+
+decimal-fixed : (n : ℕ) → n < 10 ^ 64 → Fixed (kind.Number, decimal n)
+decimal-fixed n w rest h = let d = decimal-IsDigits n w in run-token kind.Number (decimal n) rest (number-kind (decimal n) (decimal-is_digits n w)) d.some (digits-run (decimal n) d.whole) h
+
+pub length-fixed : (n : ℕ) → n ≤ 2 ^ 32 → Fixed (canon.array_length n)
+length-fixed n h = decimal-fixed n (omega arith)
+
+minus-fixed : (n : ℕ) → n < 10 ^ 64 → Fixed (kind.Number, 45 ∷ decimal n)
+minus-fixed n w rest h =
+    let d = decimal-IsDigits n w in
+    run-token kind.Number (45 ∷ decimal n) rest (rw (or_right (is_digits (45 ∷ decimal n)) _ (decimal-is_digits n w)) refl) (omega arith) (digits-run (decimal n) d.whole) h
+
+pub number-fixed : (z : ℤ) → IsWide z → Fixed (canon.number z)
+number-fixed (pos n) h = decimal-fixed n (omega arith)
+number-fixed (negsuc n) h = minus-fixed (suc n) (omega arith)
+
+-- ---- signs
+
+pub open-fixed : Fixed (canon.sign 40)
+unfolding token marked_token
+open-fixed rest h = IsToken-token (kind.Sign 40) (40 ∷ []) rest refl
+
+pub close-fixed : Fixed (canon.sign 41)
+unfolding token marked_token
+close-fixed rest h = IsToken-token (kind.Sign 41) (41 ∷ []) rest refl
+
+pub comma-fixed : Fixed canon.comma
+unfolding token marked_token
+comma-fixed rest h = IsToken-token (kind.Sign 44) (44 ∷ []) rest refl
+
+pub equals-fixed : Fixed (canon.sign 61)
+unfolding token marked_token
+equals-fixed rest h = IsToken-token (kind.Sign 61) (61 ∷ []) rest refl
+
+pub square-fixed : Fixed (canon.sign 91)
+unfolding token marked_token
+square-fixed rest h = IsToken-token (kind.Sign 91) (91 ∷ []) rest refl
+
+pub square_end-fixed : Fixed (canon.sign 93)
+unfolding token marked_token
+square_end-fixed rest h = IsToken-token (kind.Sign 93) (93 ∷ []) rest refl
+
+pub curly-fixed : Fixed (canon.sign 123)
+unfolding token marked_token
+curly-fixed rest h = IsToken-token (kind.Sign 123) (123 ∷ []) rest refl
+
+pub curly_end-fixed : Fixed (canon.sign 125)
+unfolding token marked_token
+curly_end-fixed rest h = IsToken-token (kind.Sign 125) (125 ∷ []) rest refl
+
+-- ---- names
+
+-- a run that begins with no digit
+pub plain-IsName : (s : Text) → is_plain s ≡ true → (rest : Text) → NotFirst goes_on rest → IsName s rest
+plain-IsName s e rest h =
+    let both = and_parts (is_run s) _ e in let run = and_parts _ _ both.0 in
+    inl (some_run s rest (ltb-true _ _ run.0) run.1 h, inr (first s (not-true _ both.1))) where
+      first : (t : Text) → begins is_ascii_digit t ≡ false → NotFirst is_ascii_digit t
+      first [] f = tt
+      first (b ∷ t) f = f
+
+-- a run that is no digits
+pub label-IsLabelName : (s : Text) → is_plain_label s ≡ true → (rest : Text) → IsLabelName s (58 ∷ rest)
+label-IsLabelName s e rest =
+    let both = and_parts (is_run s) _ e in let run = and_parts _ _ both.0 in
+    inl (record { some = ltb-true _ _ run.0; run = record { whole = run.1; ends = refl } }, inr (λ d. let yes = IsDigits-is_digits s d in let no = not-true _ both.1 in cc))
+
+spelled-IsName : (n : Name) → IsKept n → (rest : Text) → NotFirst goes_on rest → IsName (spelled_name is_plain n) rest
+spelled-IsName (name.Number n) k rest h =
+    let d = decimal-IsDigits n (omega arith) in
+    let value = decimal-value n (omega arith) in
+    inl (some_run (decimal n) rest d.some (digits-run (decimal n) d.whole) h, inl (record { digits = d; small = omega arith }))
+spelled-IsName (name.Text s) k rest h = cond_both (is_plain s) s (in_quotes s) (λ t. IsName t rest) (λ e. plain-IsName s e rest h) (λ _. inr (quoted-IsQuoted s))
+
+spelled-IsLabelName : (n : Name) → IsKept n → (rest : Text) → IsLabelName (spelled_name is_plain_label n) (58 ∷ rest)
+spelled-IsLabelName (name.Number n) k rest =
+    let d = decimal-IsDigits n (omega arith) in
+    let value = decimal-value n (omega arith) in
+    inl (record { some = d.some; run = record { whole = digits-run (decimal n) d.whole; ends = refl } }, inl (record { digits = d; small = omega arith }))
+spelled-IsLabelName (name.Text s) k rest = cond_both (is_plain_label s) s (in_quotes s) (λ t. IsLabelName t (58 ∷ rest)) (λ e. label-IsLabelName s e rest) (λ _. inr (quoted-IsQuoted s))
+
+mark-some : (k : TokenKind) (n m : ℕ) → n ≡ m → 0 < m → behind_mark k n ≡ Some (k, m + 1)
+mark-some k n m e h = rw (e, lt-ltb 0 m h) refl
+
+some_name : (s rest : Text) → IsName s rest → 0 < length s
+some_name s rest (inl (r, h)) = r.some
+some_name s rest (inr q) = let len = ap length q.spelled in omega arith
+
+token-local : (s rest : Text) → IsName s rest → token (37 ∷ (s ++ rest)) ≡ Some (kind.Local, length s + 1)
+unfolding token marked_token
+token-local s rest i = mark-some kind.Local _ _ (name_len-IsName s rest i) (some_name s rest i)
+
+token-global : (s rest : Text) → IsName s rest → token (64 ∷ (s ++ rest)) ≡ Some (kind.Global, length s + 1)
+unfolding token marked_token
+token-global s rest i = mark-some kind.Global _ _ (name_len-IsName s rest i) (some_name s rest i)
+
+one_more : (b : ℕ) (s : Text) → length s + 1 ≡ length (b ∷ s)
+one_more b s = omega arith
+
+pub local_name-fixed : (s rest : Text) → IsName s rest → IsToken kind.Local (37 ∷ s) rest
+local_name-fixed s rest i = IsToken-token kind.Local (37 ∷ s) rest (token-local s rest i ∙ ap (λ m. Some (kind.Local, m)) (one_more 37 s))
+
+pub global_name-fixed : (s rest : Text) → IsName s rest → IsToken kind.Global (64 ∷ s) rest
+global_name-fixed s rest i = IsToken-token kind.Global (64 ∷ s) rest (token-global s rest i ∙ ap (λ m. Some (kind.Global, m)) (one_more 64 s))
+
+pub local-fixed : (n : Name) → IsKept n → Fixed (canon.local n)
+local-fixed n k rest h = local_name-fixed (spelled_name is_plain n) rest (spelled-IsName n k rest h)
+
+pub global-fixed : (n : Name) → IsKept n → Fixed (canon.global n)
+global-fixed n k rest h = global_name-fixed (spelled_name is_plain n) rest (spelled-IsName n k rest h)
+
+label_name : (s : Text) → IsSmallNumber s ⊎ (IsDigits s → ⊥) → is_label_name s ≡ true
+label_name s (inl n) = or_left _ _ (IsSmallNumber-is_small_number s n)
+label_name s (inr h) = or_right (is_small_number s) _ (ap not (false_from_ne_true _ (λ e. h (is_digits-IsDigits s e))))
+
+run_label : (s rest : Text) → is_label_name s ≡ true → run_token s (58 ∷ rest) ≡ (kind.Label, length s + 1)
+unfolding run_token
+run_label s rest h = rw h refl
+
+quoted_label : (n : ℕ) (rest : Text) → 0 < n → quoted_token n (58 ∷ rest) ≡ Some (kind.Label, n + 1)
+unfolding quoted_token
+quoted_label n rest h = rw (lt-ltb 0 n h) refl
+
+token-label : (s rest : Text) → IsLabelName s (58 ∷ rest) → token (s ++ (58 ∷ rest)) ≡ Some (kind.Label, length s + 1)
+token-label s rest (inl (r, h)) = token-run s (58 ∷ rest) r ∙ ap (λ t. Some t) (run_label s rest (label_name s h))
+token-label s rest (inr q) = token-quoted s (58 ∷ rest) q ∙ quoted_label (length s) rest (let len = ap length q.spelled in omega arith)
+
+pub label_name-fixed : (s rest : Text) → IsLabelName s (58 ∷ rest) → IsToken kind.Label (s ++ (58 ∷ [])) rest
+label_name-fixed s rest i =
+    let count : length s + 1 ≡ length (s ++ (58 ∷ [])) = simp length-append (omega arith) in
+    IsToken-token kind.Label (s ++ (58 ∷ [])) rest (ap token (append_assoc s (58 ∷ []) rest) ∙ token-label s rest i ∙ ap (λ m. Some (kind.Label, m)) count)
+
+pub label-fixed : (n : Name) → IsKept n → Fixed (canon.label n)
+label-fixed n k rest h = label_name-fixed (spelled_name is_plain_label n) rest (spelled-IsLabelName n k rest)
+
+-- ---- texts
+
+c_string : (rest : Text) → begins is_colon rest ≡ false → 0 < quoted_len rest → run_token (99 ∷ []) rest ≡ (kind.CString, quoted_len rest + 1)
+unfolding run_token
+c_string rest h some = rw (h, lt-ltb 0 _ some) refl
+
+pub cstring-fixed : (s : Text) → Fixed (canon.cstring s)
+cstring-fixed s rest h =
+    let q = in_quotes s in
+    let len = quoted_len-IsQuoted q rest (quoted-IsQuoted s) in
+    let some : 0 < length q = omega arith in
+    let r : IsSomeRun is_run_byte (99 ∷ []) (q ++ rest) = record { some = omega arith; run = record { whole = refl; ends = refl } } in
+    let count : quoted_len (q ++ rest) + 1 ≡ length (99 ∷ q) = omega arith in
+    IsToken-token kind.CString (99 ∷ q) rest (token-run (99 ∷ []) (q ++ rest) r ∙ ap (λ t. Some t) (c_string (q ++ rest) refl (omega arith)) ∙ ap (λ n. Some (kind.CString, n)) count)
+
+-- ---- words of tables
+
+pub width-fixed : (w : Width) → Fixed (canon.word (canon.width_word w))
+width-fixed width.W1 = word-fixed (codes "i1") refl (omega arith) refl
+width-fixed width.W8 = word-fixed (codes "i8") refl (omega arith) refl
+width-fixed width.W16 = word-fixed (codes "i16") refl (omega arith) refl
+width-fixed width.W32 = word-fixed (codes "i32") refl (omega arith) refl
+width-fixed width.W64 = word-fixed (codes "i64") refl (omega arith) refl
+
+pub binary-fixed : (b : BinOp) → Fixed (canon.word (canon.binary_word b))
+binary-fixed binary.Add = word-fixed (codes "add") refl (omega arith) refl
+binary-fixed binary.Sub = word-fixed (codes "sub") refl (omega arith) refl
+binary-fixed binary.Mul = word-fixed (codes "mul") refl (omega arith) refl
+binary-fixed binary.UDiv = word-fixed (codes "udiv") refl (omega arith) refl
+binary-fixed binary.SDiv = word-fixed (codes "sdiv") refl (omega arith) refl
+binary-fixed binary.URem = word-fixed (codes "urem") refl (omega arith) refl
+binary-fixed binary.SRem = word-fixed (codes "srem") refl (omega arith) refl
+binary-fixed binary.Shl = word-fixed (codes "shl") refl (omega arith) refl
+binary-fixed binary.LShr = word-fixed (codes "lshr") refl (omega arith) refl
+binary-fixed binary.AShr = word-fixed (codes "ashr") refl (omega arith) refl
+binary-fixed binary.And = word-fixed (codes "and") refl (omega arith) refl
+binary-fixed binary.Or = word-fixed (codes "or") refl (omega arith) refl
+binary-fixed binary.Xor = word-fixed (codes "xor") refl (omega arith) refl
+
+pub cast-fixed : (c : Cast) → Fixed (canon.word (canon.cast_word c))
+cast-fixed cast.Trunc = word-fixed (codes "trunc") refl (omega arith) refl
+cast-fixed cast.ZExt = word-fixed (codes "zext") refl (omega arith) refl
+cast-fixed cast.SExt = word-fixed (codes "sext") refl (omega arith) refl
+cast-fixed cast.PtrToInt = word-fixed (codes "ptrtoint") refl (omega arith) refl
+cast-fixed cast.IntToPtr = word-fixed (codes "inttoptr") refl (omega arith) refl
+
+pub predicate-fixed : (p : Pred) → Fixed (canon.word (canon.predicate_word p))
+predicate-fixed pred.Eq = word-fixed (codes "eq") refl (omega arith) refl
+predicate-fixed pred.Ne = word-fixed (codes "ne") refl (omega arith) refl
+predicate-fixed pred.Ugt = word-fixed (codes "ugt") refl (omega arith) refl
+predicate-fixed pred.Uge = word-fixed (codes "uge") refl (omega arith) refl
+predicate-fixed pred.Ult = word-fixed (codes "ult") refl (omega arith) refl
+predicate-fixed pred.Ule = word-fixed (codes "ule") refl (omega arith) refl
+predicate-fixed pred.Sgt = word-fixed (codes "sgt") refl (omega arith) refl
+predicate-fixed pred.Sge = word-fixed (codes "sge") refl (omega arith) refl
+predicate-fixed pred.Slt = word-fixed (codes "slt") refl (omega arith) refl
+predicate-fixed pred.Sle = word-fixed (codes "sle") refl (omega arith) refl

@@ -1,0 +1,5 @@
+pub mod Spelling
+pub mod Parts
+pub mod Lines
+pub mod Texts
+pub mod Printing

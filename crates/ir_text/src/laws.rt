@@ -1,0 +1,36 @@
+ghost use Rattle.ir_form.specs.Bytes.{Text};
+ghost use Rattle.ir_form.specs.Tokens.{Fault, HasFault};
+ghost use Rattle.ir_text.specs.Lines.{canon, instruction_text};
+ghost use Rattle.ir_text.specs.Spelling.{is_plain, is_plain_label};
+ghost use Rattle.ir_text.specs.Texts.{AreBytes, IsInstruction, IsTextOf, ReadsAsGlobal, ReadsAsLabel, ReadsAsLocal};
+ghost use Rattle.ir_tree.specs.declared.item.Item.{Item};
+ghost use Rattle.ir_tree.specs.declared.item.Item.TheVariants as tree;
+ghost use Rattle.ir_tree.specs.declared.name.Name.{Name};
+ghost use Rattle.ir_tree.specs.declared.op.Op.{Op};
+ghost use Rattle.std.specs.Prelude.{Contains, List, Option, true, ℕ, ◌≡◌, ◌↔◌};
+
+/// The canonical text of a module that is read from a text is read as that same module: it has
+/// tokens and no fault, they are whole items, each where it is allowed, and the tree's items are
+/// those of the module and no others. The text of each of its instructions, without the result, is
+/// read as that instruction, and so is that of an instruction which is a text by itself.
+pub fn canon_reads_back()
+    ensures module { (text : Text) (items : List Item)
+        → AreBytes text → IsTextOf text items → IsTextOf (canon items) items }
+    ensures only { (text : Text) (items others : List Item)
+        → AreBytes text → IsTextOf text items → IsTextOf (canon items) others → others ≡ items }
+    ensures fault { (text : Text) (items : List Item) (at : ℕ) (fault : Fault)
+        → AreBytes text → IsTextOf text items → HasFault (canon items) at fault → ⊥ }
+    ensures instruction { (text : Text) (items : List Item) (n : Option Name) (o : Op)
+        → AreBytes text → IsTextOf text items → Contains items (tree.Instr n o)
+        → IsInstruction (instruction_text o) o }
+    ensures alone { (text : Text) (o : Op)
+        → AreBytes text → IsInstruction text o → IsInstruction (instruction_text o) o }
+{}
+
+/// A name is plain exactly where its plain spelling reads back as it: behind `%` or `@`, or before
+/// `:`, its bytes are a token, and that token's name is these bytes.
+pub fn plain_names()
+    ensures local { (s : Text) → (is_plain s ≡ true) ↔ ReadsAsLocal s }
+    ensures global { (s : Text) → (is_plain s ≡ true) ↔ ReadsAsGlobal s }
+    ensures label { (s : Text) → (is_plain_label s ≡ true) ↔ ReadsAsLabel s }
+{}
