@@ -3,8 +3,6 @@ ghost use Rattle.code_form.specs.Variant.{mutants_of};
 ghost use Rattle.code_form.specs.Fit.{FitsTable};
 ghost use Rattle.plain_machine.specs.Example.{IsExample, example_func, example_case};
 
-mod memory;
-mod outside;
 mod rows;
 
 use crate::run::run_alone;
