@@ -1,6 +1,12 @@
-pub mod Toy
-pub mod ToyLaws
-pub mod ToyView
-pub mod Example
 pub mod Ends
 pub mod Splits
+pub mod Pieces
+pub mod Plans
+pub mod Held
+pub mod Lives
+pub mod Divided
+pub mod ClassTable
+pub mod Counted
+pub mod Engines
+pub mod Turned
+pub mod Analysed

@@ -12,7 +12,7 @@ ghost use Rattle.traces.specs.Configuration.{IsConfiguration, is_live, run, open
 ghost use Rattle.exec_core.specs.Ends.{IsEnd};
 ghost use Rattle.exec_core.specs.Splits.{IsSplit, IsEarlier};
 
-use crate::machine::Machine;
+use exec_machine::Machine;
 
 /// The trace of a mutant is the one list of at most as many changes as the budget has, each made by the mutant in the state that those before
 /// it lead to, which hasn't ended, where fewer changes than the budget has lead to a state that has ended.

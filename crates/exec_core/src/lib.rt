@@ -1,14 +1,28 @@
-//! The machine whose states can be forked, as the engine knows it, and the laws of running the mutants of a test together.
+//! The engine: it runs the mutants of a test together over any machine. And the laws of running them together.
 #![tactic(auto)]
 
-pub mod examples;
+mod class_table;
+mod divide;
+mod engine;
+mod finish;
 pub mod laws;
-mod machine;
+mod lives;
 mod meter;
+mod pieces;
+mod plan;
+mod plans;
+mod prepare;
 mod result;
-mod toy;
+mod room;
+mod run;
+mod settle;
+mod shared_run;
+mod sorted;
+mod split_log;
+mod tried;
+mod turn;
 
-pub use machine::Machine;
+pub use exec_machine::{Machine, Toy, ToyState, examples};
 pub use meter::Meter;
 pub use result::{Analysis, Class, Split, Work};
-pub use toy::{Toy, ToyState};
+pub use shared_run::analyse;

@@ -1,0 +1,46 @@
+-- An execution divided: prepared pieces, then applied.
+use Rattle.std.proofs.Common.{◌≡◌, ℕ, ◌+◌, List, ◌∷◌, ◌++◌, length, map, sym, ◌∙◌, subst}
+use Rattle.std.specs.List.Sorted.{IsPermutation}
+use Rattle.std.proofs.lemmas.Simd.{map-map}
+use Rattle.std.proofs.lemmas.List.Elements.{All-contains}
+use Rattle.std.proofs.lemmas.List.Sorted.{IsPermutation-sym, IsPermutation-trans, IsPermutation-append_left, IsPermutation-reverse, IsPermutation-map, length_permutation}
+use Rattle.traces.specs.View.{View, IsLawful}
+use Rattle.traces.proofs.Steps.{length_map}
+use Rattle.exec_core.specs.Pieces.{numbers_of}
+use Rattle.exec_core.specs.Plans.{planned_of, plans_of, ArePrepared}
+use Rattle.exec_core.specs.declared.plans.Plan.{Plan}
+use Rattle.exec_core.specs.Lives.{execution_of, live_numbers, applied_of, AreApplied}
+use Rattle.exec_core.specs.Divided.{child_of, Divided}
+use Rattle.exec_core.specs.declared.pieces.Piece.{Piece}
+use Rattle.exec_core.specs.declared.lives.Live.{Live}
+use Rattle.exec_core.proofs.PieceLemmas.{map_where}
+
+pub as_many : {S C : Type 0} (plans : List (Plan C)) (rs : List (Piece S C)) → IsPermutation (plans_of plans) (map planned_of rs) → length rs ≡ length plans
+as_many plans rs p = sym (length_map planned_of rs) ∙ length_permutation (plans_of plans) (map planned_of rs) p ∙ length_map (λ x. (x.members, x.change)) plans
+
+module _ {M S W C : Type 0} (V : View M S W C) (lawful : IsLawful V) (a b c : M) (e : Live S) (plans : List (List ℕ × C)) (rs : List (Piece S C)) (before after : List (Live S))
+    (p : ArePrepared V a e.state b plans rs) (d : AreApplied V b c (e.step + 1) rs before after) where
+  children : map (applied_of V b (e.step + 1)) rs ≡ map (child_of V a e) (map planned_of rs)
+  children = map_where (applied_of V b (e.step + 1)) (λ q. child_of V a e (planned_of q)) rs
+      (λ q i. let s = All-contains (λ x. V.stands b x.state ≡ V.stands a e.state) rs q p.stand i in let m = p.keeps.meanings in cc)
+      ∙ sym (map-map (child_of V a e) planned_of rs)
+
+  pub divided : Divided V a e c plans before after
+  divided = record {
+    made = d.made;
+    added = d.added;
+    out = d.applied.out;
+    seen = IsPermutation-trans (map (child_of V a e) plans) (map (child_of V a e) (map planned_of rs)) (map (execution_of V c) d.made)
+        (IsPermutation-map (child_of V a e) plans (map planned_of rs) p.planned)
+        (IsPermutation-sym _ _ (subst (IsPermutation (map (execution_of V c) d.made)) (d.applied.seen ∙ children) (IsPermutation-reverse (map (execution_of V c) d.made))));
+    numbers = subst (λ xs. IsPermutation (live_numbers V d.made ++ V.out_numbers a) (V.number e.state ∷ xs)) (sym d.applied.out_numbers)
+        (IsPermutation-trans (live_numbers V d.made ++ V.out_numbers a) (numbers_of V rs ++ V.out_numbers a) (V.number e.state ∷ V.out_numbers b)
+        (IsPermutation-append_left (V.out_numbers a) (live_numbers V d.made) (numbers_of V rs) (subst (IsPermutation (live_numbers V d.made)) d.applied.numbers (IsPermutation-reverse (live_numbers V d.made))))
+        p.numbers);
+    keeps = record {
+      meanings = d.applied.keeps.meanings ∙ p.keeps.meanings;
+      stays = lawful.stays_trans a b c p.keeps.stays d.applied.keeps.stays;
+      out = λ t i ne. d.applied.keeps.out t (p.keeps.out t i ne) (p.fresh _ (lawful.among a t i) ne);
+      stands = λ t i ne. d.applied.keeps.stands t (p.keeps.out t i ne) (p.fresh _ (lawful.among a t i) ne) ∙ p.keeps.stands t i ne;
+    };
+  }

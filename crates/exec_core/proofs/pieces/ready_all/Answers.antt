@@ -1,0 +1,69 @@
+use Rattle.std.proofs.Common.{◌≡◌, [], ◌∷◌, ◌++◌, arith, ◌∙◌, refl, subst, sym, ap}
+use Rattle.std.proofs.lemmas.List.Sums.{sum_by_push}
+use Rattle.exec_core.specs.Pieces.{AreReadying, weights_of}
+use Rattle.exec_core.specs.declared.pieces.Piece.{Piece}
+use Rattle.exec_core.proofs.PieceLemmas.{Touches, readying_all, readying_more, readying_back}
+use Rattle.exec_core.proofs.pieces.ready_all.Goals as goal
+
+pub loop-piece-init : goal.loop-piece-init
+loop-piece-init g c = let V = g.M.Machine.view in record {
+  pieces = readying_all V g.met.M.Machine.lawful c.args.machine.now c.args.pieces.now.items c.args.readied.now.items c.requires.planned c.requires.distinct c.requires.empty;
+  room = c.requires.room;
+  readied = refl;
+  at_least = omega arith;
+  tried = refl;
+  applied = refl;
+  weighed = refl;
+  asks = λ p. refl;
+}
+
+pub loop-piece-preserved : goal.loop-piece-preserved
+loop-piece-preserved g c =
+    let V = g.M.Machine.view in let i = c.loop-piece.invariant in let e = c.in-Ok.ensures in
+    let p = c.in-Some.piece in
+    let q : Piece g.row.M-State.Denot g.row.M-Change.Denot = record { state = c.ready.new.s; members = p.members; change = p.change } in
+    let t : Touches V g.met.M.Machine.lawful c.loop-piece.machine c.ready.new.self p q = record {
+      number = e.number;
+      members = refl;
+      change = refl;
+      out = e.out;
+      stands = e.state;
+      keeps = e.keeps;
+      keeps_ready = e.keeps_ready;
+    } in
+    let b : AreReadying V c.args.machine.now c.loop-piece.machine c.args.pieces.now.items (c.pop.new.self.items ++ p ∷ []) c.loop-piece.readied.items =
+    subst (λ xs. AreReadying V c.args.machine.now c.loop-piece.machine c.args.pieces.now.items xs c.loop-piece.readied.items) c.in-Some.ensures.items i.pieces in
+    record {
+      pieces = subst (λ xs. AreReadying V c.args.machine.now c.ready.new.self c.args.pieces.now.items c.pop.new.self.items xs) (sym c.put.ensures.items)
+          (readying_more V g.met.M.Machine.lawful c.args.machine.now c.loop-piece.machine c.ready.new.self c.args.pieces.now.items c.pop.new.self.items c.loop-piece.readied.items p q b t e.out_numbers e.ready);
+      room = omega (arith, c.in-Some.ensures.cases, c.put.ensures.len, c.put.ensures.capacity);
+      readied =
+          (let A = V.meanings c.args.machine.now in
+          let s = ap (weights_of A) c.in-Some.ensures.items ∙ sum_by_push (λ (x : Piece g.row.M-State.Denot g.row.M-Change.Denot). A.weight x.change) c.pop.new.self.items p in
+          let w : (V.meanings c.loop-piece.machine).weight p.change ≡ A.weight p.change = ap (λ B. B.weight p.change) i.pieces.keeps.meanings in
+          omega (arith, e.readied, i.readied, s, w));
+      at_least = omega (arith, e.readied_at_least, i.at_least);
+      tried = e.tried ∙ i.tried;
+      applied = e.applied ∙ i.applied;
+      weighed = e.weighed ∙ i.weighed;
+      asks = λ k. e.asks k ∙ i.asks k;
+    }
+
+pub returns-in-Err-clause-pieces : goal.returns-in-Err-clause-pieces
+returns-in-Err-clause-pieces g c =
+    let V = g.M.Machine.view in let i = c.loop-piece.invariant in let e = c.in-Err.ensures in
+    let p = c.in-Some.piece in
+    let q : Piece g.row.M-State.Denot g.row.M-Change.Denot = record { state = c.ready.new.s; members = p.members; change = p.change } in
+    let t : Touches V g.met.M.Machine.lawful c.loop-piece.machine c.ready.new.self p q = record {
+      number = e.number;
+      members = refl;
+      change = refl;
+      out = e.out;
+      stands = e.state;
+      keeps = e.keeps;
+      keeps_ready = e.keeps_ready;
+    } in
+    let b : AreReadying V c.args.machine.now c.loop-piece.machine c.args.pieces.now.items (c.pop.new.self.items ++ p ∷ []) c.loop-piece.readied.items =
+    subst (λ xs. AreReadying V c.args.machine.now c.loop-piece.machine c.args.pieces.now.items xs c.loop-piece.readied.items) c.in-Some.ensures.items i.pieces in
+    subst (λ xs. AreReadying V c.args.machine.now c.ready.new.self c.args.pieces.now.items xs c.loop-piece.readied.items) (sym c.put-in-Err.ensures.items)
+    (readying_back V g.met.M.Machine.lawful c.args.machine.now c.loop-piece.machine c.ready.new.self c.args.pieces.now.items c.pop.new.self.items c.loop-piece.readied.items p q b t e.out_numbers)

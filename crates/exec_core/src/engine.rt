@@ -1,0 +1,64 @@
+ghost use Rattle.std.specs.Prelude.{◌≡◌, ◌+◌, ◌≤◌, [], OnOk, vec_len, vec_capacity};
+ghost use Rattle.exec_core.specs.Engines.{KeepsExecutions, HasRoomFor, IsIdle};
+
+use crate::lives::Live;
+use crate::pieces::Piece;
+use crate::result::Split;
+use am_base::OutOfMemory;
+use std::alloc::Global;
+
+/// The executions of an analysis and what it has taken so far.
+pub struct Engine<S, C> {
+    /// Those that go on, and those that have ended.
+    pub lives: Vec<Live<S>>,
+    pub ended: Vec<Live<S>>,
+    /// The divisions, in the order of the turns.
+    pub splits: Vec<Split>,
+    /// How many variants were tried, and how many changes the mutants would have made so far, each by itself.
+    pub tries: u64,
+    pub alone: u64,
+    /// Room for a turn, empty between turns.
+    pub pieces: Vec<Piece<S, C>>,
+    pub readied: Vec<Piece<S, C>>,
+    pub made: Vec<Live<S>>,
+    /// Room for a table of classes, whose entries mean nothing between turns.
+    pub classes: Vec<u32>,
+}
+
+/// An engine without an execution. It takes no memory.
+pub fn idle<S, C>(alloc: Global) -> Engine<S, C>
+    ensures idle { IsIdle result }
+    ensures lives { result.lives.items ≡ [] }
+    ensures ended { result.ended.items ≡ [] }
+    ensures splits { result.splits.items ≡ [] }
+    ensures tries { result.tries ≡ 0 }
+    ensures alone { result.alone ≡ 0 }
+{
+    Engine {
+        lives: Vec::new(alloc),
+        ended: Vec::new(alloc),
+        splits: Vec::new(alloc),
+        tries: 0,
+        alone: 0,
+        pieces: Vec::new(alloc),
+        readied: Vec::new(alloc),
+        made: Vec::new(alloc),
+        classes: Vec::new(alloc),
+    }
+}
+
+/// Makes room for the parts of a turn, that many of them.
+pub fn make_room<S, C>(engine: &mut Engine<S, C>, parts: usize) -> Result<(), OutOfMemory>
+    ensures room { OnOk result (HasRoomFor parts engine.new) }
+    ensures kept { KeepsExecutions engine.old engine.new }
+    ensures splits { engine.new.splits.items ≡ engine.old.splits.items }
+    ensures tries { engine.new.tries ≡ engine.old.tries }
+    ensures alone { engine.new.alone ≡ engine.old.alone }
+{
+    engine.lives.reserve(parts)?;
+    engine.ended.reserve(parts)?;
+    engine.pieces.reserve(parts)?;
+    engine.readied.reserve(parts)?;
+    engine.made.reserve(parts)?;
+    Ok(())
+}

@@ -1,0 +1,154 @@
+ghost use Rattle.std.specs.Prelude.{◌≡◌, ℕ, ◌+◌, ◌*◌, ◌^◌, ◌<◌, ◌≤◌, ◌++◌, [], length, IfNone, IfSome, IfOk, OnOk, OnErr, slice_index, slice_index_or, vec_len};
+ghost use Rattle.std.specs.List.{All};
+ghost use Rattle.code_form.specs.Variant.{mutants_of};
+ghost use Rattle.traces.specs.Counts.{SameCounts};
+ghost use Rattle.traces.specs.Together.{below};
+ghost use Rattle.exec_core.specs.Analysed.{IsGoing, IsStopped};
+ghost use Rattle.exec_core.specs.Counted.{AreAtMost};
+ghost use Rattle.exec_core.specs.Engines.{IsIdle, KeepsExecutions, HasRoomFor};
+ghost use Rattle.exec_core.specs.Held.{IsReleased};
+ghost use Rattle.exec_core.specs.declared.lives.Live.{Live};
+ghost use Rattle.exec_core.specs.Plans.{trial_of, KnowsTable};
+
+use crate::engine::{Engine, make_room};
+use crate::lives::Live;
+use crate::meter::Meter;
+use crate::settle::settle;
+use crate::turn::turn;
+use am_base::OutOfMemory;
+use code_form::Variants;
+use exec_machine::Machine;
+use member_sets::Members;
+use std::alloc::Global;
+
+/// The index of the execution with the least least member, of one or more.
+fn lowest<S>(lives: &[Live<S>]) -> usize
+    requires { 0 < length lives.now }
+    ensures within { result < length lives.now }
+    ensures least { (l : Live S) → All (λ k. slice_index (slice_index_or lives.now result l).members 0 ≤ slice_index k.members 0) lives.now }
+{
+    let mut best = 0;
+    for at in 1..lives.len() {
+        if lives[at].members.least() < lives[best].members.least() {
+            best = at;
+        }
+    }
+    best
+}
+
+/// The index of the execution that takes the next turn, if there is one: the one with the least least member.
+fn pick<S>(lives: &[Live<S>]) -> Option<usize>
+    ensures none { IfNone result (lives.now ≡ []) }
+    ensures within { IfSome result (λ at. at < length lives.now) }
+    ensures least { IfSome result (λ at. (l : Live S) → All (λ k. slice_index (slice_index_or lives.now at l).members 0 ≤ slice_index k.members 0) lives.now) }
+{
+    if lives.is_empty() {
+        return None;
+    }
+    Some(lowest(lives))
+}
+
+/// The set of all mutants, and room for the first execution.
+fn first_members<S, C>(
+    alloc: Global,
+    table: &Variants,
+    engine: &mut Engine<S, C>,
+) -> Result<Members, OutOfMemory>
+    ensures members { IfOk result (λ members. members ≡ below (mutants_of table.now)) }
+    ensures some { 0 < mutants_of table.now }
+    ensures few { mutants_of table.now ≤ 65536 }
+    ensures room { OnOk result (HasRoomFor 1 engine.new) }
+    ensures kept { KeepsExecutions engine.old engine.new }
+    ensures splits { engine.new.splits.items ≡ engine.old.splits.items }
+    ensures tries { engine.new.tries ≡ engine.old.tries }
+    ensures alone { engine.new.alone ≡ engine.old.alone }
+{
+    let mutants = table.mutants();
+    make_room(engine, 1)?;
+    Members::all(alloc, mutants)
+}
+
+/// Puts all mutants at the start, as one execution. After a refusal the start is released.
+fn open<M: Machine>(
+    alloc: Global,
+    machine: &mut M,
+    table: &Variants,
+    start: M::State,
+    budget: u64,
+    engine: &mut Engine<M::State, M::Change>,
+    meter: &Meter,
+) -> Result<(), OutOfMemory>
+    requires out { M.view.is_out machine.old start }
+    requires lives { engine.old.lives.items ≡ [] }
+    requires ended { engine.old.ended.items ≡ [] }
+    requires splits { engine.old.splits.items ≡ [] }
+    requires tries { engine.old.tries ≡ 0 }
+    requires alone { engine.old.alone ≡ 0 }
+    requires idle { IsIdle engine.old }
+    ensures some { 0 < mutants_of table.now }
+    ensures few { mutants_of table.now ≤ 65536 }
+    ensures going { OnOk result (IsGoing M.view (trial_of (M.view.meanings machine.old) table.now (M.view.stands machine.old start) budget)
+        machine.old machine.new (M.view.number start) engine.new meter.now meter.now) }
+    ensures idle { IsIdle engine.new }
+    ensures err { OnErr result (IsReleased M.view machine.old machine.new (M.view.number start)) }
+    ensures err_lives { OnErr result (engine.new.lives.items ≡ []) }
+    ensures err_ended { OnErr result (engine.new.ended.items ≡ []) }
+    ensures counts { SameCounts (M.view.counts machine.old) (M.view.counts machine.new) }
+{
+    match first_members(alloc, table, engine) {
+        Ok(members) => {
+            settle(
+                machine,
+                budget,
+                Live {
+                    step: 0,
+                    members,
+                    state: start,
+                },
+                &mut engine.lives,
+                &mut engine.ended,
+            );
+            Ok(())
+        }
+        Err(error) => {
+            machine.release(start);
+            Err(error)
+        }
+    }
+}
+
+/// Runs all mutants from the start on until no execution goes on. The live execution with the least least member takes each turn.
+pub fn run_all<M: Machine>(
+    alloc: Global,
+    machine: &mut M,
+    table: &Variants,
+    start: M::State,
+    budget: u64,
+    engine: &mut Engine<M::State, M::Change>,
+    meter: &mut Meter,
+) -> Result<(), OutOfMemory>
+    requires out { M.view.is_out machine.old start }
+    requires lives { engine.old.lives.items ≡ [] }
+    requires ended { engine.old.ended.items ≡ [] }
+    requires splits { engine.old.splits.items ≡ [] }
+    requires tries { engine.old.tries ≡ 0 }
+    requires alone { engine.old.alone ≡ 0 }
+    requires idle { IsIdle engine.old }
+    requires budget { budget ≤ 10000000 }
+    requires known { KnowsTable (M.view.meanings machine.old) table.now }
+    requires room { AreAtMost (3 * 2 ^ 61) (M.view.counts machine.old) }
+    requires room_to_count { meter.old ≤ 3 * 2 ^ 61 }
+    ensures some { 0 < mutants_of table.now }
+    ensures going { OnOk result (IsGoing M.view (trial_of (M.view.meanings machine.old) table.now (M.view.stands machine.old start) budget)
+        machine.old machine.new (M.view.number start) engine.new meter.old meter.new) }
+    ensures over { OnOk result (engine.new.lives.items ≡ []) }
+    ensures stopped { OnErr result (IsStopped M.view (trial_of (M.view.meanings machine.old) table.now (M.view.stands machine.old start) budget)
+        machine.old machine.new (M.view.number start) engine.new meter.old meter.new) }
+    ensures idle { IsIdle engine.new }
+{
+    open(alloc, machine, table, start, budget, engine, meter)?;
+    while let Some(at) = pick(&engine.lives) {
+        turn(alloc, machine, table, budget, at, engine, meter)?;
+    }
+    Ok(())
+}

@@ -1,0 +1,250 @@
+ghost use Rattle.std.specs.Prelude.{◌≡◌, ℕ, ◌≤◌, length, nat_eq, IfOk};
+ghost use Rattle.std.specs.List.{All, IsDistinct};
+ghost use Rattle.code_form.specs.Variant.{mutants_of, chosen_by};
+ghost use Rattle.exec_core.specs.Analysed.{class_numbers};
+
+use am_base::OutOfMemory;
+use am_lists::Items;
+use code_form::{Code, Instr, Operand, Place, Variants};
+use exec_core::{Analysis, Class, Machine, Meter, Split, Toy, Work, analyse};
+use member_sets::Members;
+use std::alloc::Global;
+use std::test::Fail;
+
+/// `freeze` of a word.
+fn freeze(word: u64) -> Instr {
+    Instr::Freeze(Operand::Word(word))
+}
+
+/// A code of that many equal instructions.
+fn plain_code(alloc: Global, len: usize) -> Result<Code, OutOfMemory>
+    ensures { IfOk result (λ code. length code.instrs ≡ len) }
+{
+    let mut instrs = Vec::with_capacity(alloc, len)?;
+    for _at in 0..len {
+        instrs.push(freeze(0))?;
+    }
+    Ok(Code {
+        funcs: Items::new(alloc),
+        instrs: Items::from_vec(instrs),
+        results: Items::new(alloc),
+        memory: Items::new(alloc),
+        const_end: 1024,
+        stack_base: 1024,
+        signs: Items::new(alloc),
+    })
+}
+
+/// Five mutants: mutant 1 has a replacement at place 0, mutant 2 at place 1, and mutants 3 and 4 have the same one at place 2.
+fn five_mutants(alloc: Global, code: &Code) -> Result<Variants, OutOfMemory>
+    requires { length code.now.instrs ≡ 3 }
+{
+    let mut table = Variants::new(alloc, 5)?;
+    table.add(alloc, code, 1, Place(0), freeze(8))?;
+    table.add(alloc, code, 2, Place(1), freeze(8))?;
+    table.add(alloc, code, 3, Place(2), freeze(9))?;
+    table.add(alloc, code, 4, Place(2), freeze(9))?;
+    Ok(table)
+}
+
+/// A thousand mutants: each from 1 on has a replacement at the place with its number.
+fn thousand_mutants(alloc: Global, code: &Code) -> Result<Variants, OutOfMemory>
+    requires { length code.now.instrs ≡ 1000 }
+{
+    let mut table = Variants::new(alloc, 1000)?;
+    for m in 1..1000u32 {
+        table.add(alloc, code, m, Place(m), freeze(8))?;
+    }
+    Ok(table)
+}
+
+/// 1,000 gains: 8 at the first 900 places, 1 at the others.
+fn late_gains(alloc: Global) -> Result<Vec<u64>, OutOfMemory>
+    ensures len { IfOk result (λ gains. length gains.items ≡ 1000) }
+    ensures small { IfOk result (λ gains. All (λ gain. gain ≤ 1000000) gains.items) }
+{
+    let mut gains = Vec::with_capacity(alloc, 1000)?;
+    for place in 0..1000u32 {
+        gains.push(if place < 900 { 8 } else { 1 })?;
+    }
+    Ok(gains)
+}
+
+/// Releases the states of the classes, and keeps their members and lengths, from the last class to the first.
+fn release_all<M: Machine>(
+    machine: &mut M,
+    classes: Items<Class<M::State>>,
+    kept: &mut Vec<(Members, u64)>,
+)
+    requires out { All (λ c. M.view.is_out machine.old c.state) classes }
+    requires distinct { IsDistinct nat_eq (class_numbers M.view classes) }
+{
+    let mut rest = classes.into_vec();
+    while let Some(class) = rest.pop() {
+        let Class {
+            state,
+            members,
+            length,
+        } = class;
+        machine.release(state);
+        let _ = kept.push((members, length));
+    }
+    rest.destroy_empty();
+}
+
+/// What an analysis of the toy machine came to.
+#[derive(Drop)]
+struct Trial {
+    classes: Vec<(Members, u64)>,
+    splits: Items<Split>,
+    work: Work,
+    tried: u64,
+    applied: u64,
+    weighed: u64,
+    asked: u64,
+    metered: u64,
+}
+
+/// Runs the toy machine with these gains.
+fn run_toy(
+    alloc: Global,
+    gains: Vec<u64>,
+    table: &Variants,
+    budget: u64,
+) -> Result<Trial, OutOfMemory>
+    requires some { 1 ≤ length gains.items }
+    requires few { length gains.items ≤ 1000 }
+    requires small { All (λ gain. gain ≤ 1000000) gains.items }
+    requires budget { budget ≤ 10000000 }
+{
+    let mut toy = Toy::new(alloc, gains)?;
+    let start = toy.start(alloc)?;
+    let mut meter = Meter::new();
+    let analysis = analyse(alloc, &mut toy, table, start, budget, &mut meter)?;
+    let Analysis {
+        classes,
+        splits,
+        work,
+    } = analysis;
+    let mut kept = Vec::new(alloc);
+    release_all(&mut toy, classes, &mut kept);
+    kept.reverse();
+    Ok(Trial {
+        classes: kept,
+        splits,
+        work,
+        tried: toy.tried(),
+        applied: toy.applied(),
+        weighed: toy.weighed(),
+        asked: toy.asked(),
+        metered: meter.steps(),
+    })
+}
+
+/// Whether the class at an index has these members, each with a trace of this length.
+fn has_class(trial: &Trial, at: usize, numbers: &[u32], length: u64) -> bool {
+    match trial.classes.get(at) {
+        Some((members, len)) => {
+            *len == length
+                && members.len() as usize == numbers.len()
+                && numbers.iter().all(|m| members.has(*m))
+        }
+        None => false,
+    }
+}
+
+/// Whether the split at an index has this step and these parts.
+fn has_split(trial: &Trial, at: usize, step: u64, parts: &[u32]) -> bool {
+    match trial.splits.get(at) {
+        Some(split) => split.step == step && split.parts.as_slice() == parts,
+        None => false,
+    }
+}
+
+/// The worked example: the gains 1, 8, 2 and the five mutants.
+fn run_example(alloc: Global, budget: u64) -> Result<Trial, OutOfMemory>
+    requires { budget ≤ 10000000 }
+{
+    let code = plain_code(alloc, 3)?;
+    let table = five_mutants(alloc, &code)?;
+    run_toy(alloc, [1, 8, 2].to_vec(alloc)?, &table, budget)
+}
+
+/// 1,000 mutants over 1,000 gains.
+fn run_thousand(alloc: Global) -> Result<Trial, OutOfMemory> {
+    let code = plain_code(alloc, 1000)?;
+    let table = thousand_mutants(alloc, &code)?;
+    run_toy(alloc, late_gains(alloc)?, &table, 1000)
+}
+
+#[test]
+fn five_mutants_within_three(rt: HostRuntime) -> Result<(), Fail> {
+    let trial = run_example(rt.alloc(), 3)?;
+    let work = trial.work;
+    assert_eq!(rt;
+        (work.steps, work.alone, work.tries, work.executions),
+        (7, 15, 8, 3)
+    );
+    assert_eq!(rt;
+        (trial.tried, trial.applied, trial.weighed, trial.asked),
+        (8, 7, 5, 3)
+    );
+    assert_eq!(rt;
+        (trial.metered, trial.classes.len(), trial.splits.len()),
+        (7, 3, 2)
+    );
+    assert!(rt; has_class(&trial, 0, &[0, 2], 3));
+    assert!(rt; has_class(&trial, 1, &[1], 3));
+    assert!(rt; has_class(&trial, 2, &[3, 4], 3));
+    assert!(rt; has_split(&trial, 0, 0, &[0, 1]));
+    assert!(rt; has_split(&trial, 1, 2, &[0, 3]));
+    Ok(())
+}
+
+#[test]
+fn five_mutants_within_two(rt: HostRuntime) -> Result<(), Fail> {
+    let trial = run_example(rt.alloc(), 2)?;
+    let work = trial.work;
+    assert_eq!(rt;
+        (work.steps, work.alone, work.tries, work.executions),
+        (4, 10, 5, 2)
+    );
+    assert_eq!(rt;
+        (trial.tried, trial.applied, trial.weighed, trial.asked),
+        (5, 4, 2, 2)
+    );
+    assert_eq!(rt;
+        (trial.metered, trial.classes.len(), trial.splits.len()),
+        (4, 2, 1)
+    );
+    assert!(rt; has_class(&trial, 0, &[0, 2, 3, 4], 2));
+    assert!(rt; has_class(&trial, 1, &[1], 2));
+    assert!(rt; has_split(&trial, 0, 0, &[0, 1]));
+    Ok(())
+}
+
+#[test]
+fn thousand_mutants_within_a_thousand(rt: HostRuntime) -> Result<(), Fail> {
+    // A replacement at a place with a gain of 8 makes the change of the original, so mutants 0 to 899 stay together: 1,000 steps. Mutant m from
+    // 900 on parts at place m and makes 1,000 - m changes of its own, each of them 1: 5,050 more. At each place from 1 on mutant 0's execution
+    // tries two variants, and the others try one a step: 1 + 1,998 + 4,950. Variant 1 is tried 999 times.
+    let trial = run_thousand(rt.alloc())?;
+    let work = trial.work;
+    assert_eq!(rt;
+        (work.steps, work.alone, work.tries, work.executions),
+        (6_050, 1_000_000, 6_949, 101)
+    );
+    assert_eq!(rt;
+        (trial.tried, trial.applied, trial.weighed, trial.asked),
+        (6_949, 6_050, 5_050, 999)
+    );
+    assert_eq!(rt;
+        (trial.metered, trial.classes.len(), trial.splits.len()),
+        (6_050, 101, 100)
+    );
+    assert!(rt; has_class(&trial, 1, &[900], 1000));
+    assert!(rt; has_class(&trial, 100, &[999], 1000));
+    assert!(rt; has_split(&trial, 0, 900, &[0, 900]));
+    assert!(rt; has_split(&trial, 99, 999, &[0, 999]));
+    Ok(())
+}
