@@ -1,6 +1,7 @@
+use am_base::{BinOp, Cast, Pred};
 use ir_lexer::lex;
 use ir_reader::{InstrError, ReadError, read, read_instruction};
-use ir_text::{print, print_instruction};
+use ir_text::{Item, Op, print, print_instruction};
 use std::alloc::Global;
 use std::process::Abort;
 use std::test::Fail;
@@ -293,6 +294,30 @@ fn depths_of_groups(rt: HostRuntime) -> Result<(), Fail> {
     expect_unread(&rt, alloc, text.as_str(), 0)
 }
 
+#[test]
+fn globals_and_types(rt: HostRuntime) -> Result<(), Fail> {
+    let alloc = rt.alloc();
+    let text = "@a = private global [2 x i32] [i32 1,i32 -2]";
+    let want = "@a = global [ 2 x i32 ] [ i32 1, i32 -2 ]\n";
+    expect_canonical(&rt, alloc, text, want)?;
+    let text = "@b = constant {i8,[0 x i8]} { i8 1, [0 x i8] [] }, section \"x\", align 8 #0";
+    let want = "@b = constant { i8, [ 0 x i8 ] } { i8 1, [ 0 x i8 ] [ ] }\n";
+    expect_canonical(&rt, alloc, text, want)?;
+    let text = "@c = constant [3 x i8] c\"a\\0a\\22\" %\"t u\" = type { }";
+    let want = "@c = constant [ 3 x i8 ] c\"a\\0A\\22\"\n%\"t u\" = type { }\n";
+    expect_canonical(&rt, alloc, text, want)
+}
+
+#[test]
+fn words_that_are_skipped(rt: HostRuntime) -> Result<(), Fail> {
+    let alloc = rt.alloc();
+    let text = "declare void @g(ptr align(8) %x, i32) align 4 \"a\"=\"b\" \"c\" #3";
+    expect_canonical(&rt, alloc, text, "declare void @g(ptr, i32)\n")?;
+    expect_unread(&rt, alloc, "@c = external global i32", 0)?;
+    expect_unread(&rt, alloc, "@d = alias i32, ptr @a", 0)?;
+    expect_unread(&rt, alloc, "module asm \"x\"", 0)
+}
+
 // One instruction.
 
 /// Asserts that the text is one instruction, with this canonical text.
@@ -419,6 +444,91 @@ fn calls(rt: HostRuntime) -> Result<(), Fail> {
     expect_none(&rt, alloc, "tail @f()");
     expect_none(&rt, alloc, "call void @f(i32 nest 1)");
     expect_none(&rt, alloc, "call void @f");
+    Ok(())
+}
+
+/// Whether the text is this binary operation.
+fn is_binary(alloc: Global, text: &str, op: BinOp) -> Result<bool, Fail> {
+    let bytes = text.as_bytes();
+    if bytes.len() > 4_194_304 {
+        return Ok(false);
+    }
+    let item = read_instruction(alloc, bytes)?;
+    match &item {
+        Item::Instr(None, Op::Bin(found, _, _, _)) => Ok(*found == op),
+        _ => Ok(false),
+    }
+}
+
+#[test]
+fn words_of_operations(rt: HostRuntime) -> Result<(), Fail> {
+    let alloc = rt.alloc();
+    assert!(rt; is_binary(alloc, "add i8 1, 2", BinOp::Add)?);
+    assert!(rt; is_binary(alloc, "sub i8 1, 2", BinOp::Sub)?);
+    assert!(rt; is_binary(alloc, "mul i8 1, 2", BinOp::Mul)?);
+    assert!(rt; is_binary(alloc, "udiv i8 1, 2", BinOp::UDiv)?);
+    assert!(rt; is_binary(alloc, "sdiv i8 1, 2", BinOp::SDiv)?);
+    assert!(rt; is_binary(alloc, "urem i8 1, 2", BinOp::URem)?);
+    assert!(rt; is_binary(alloc, "srem i8 1, 2", BinOp::SRem)?);
+    assert!(rt; is_binary(alloc, "shl i8 1, 2", BinOp::Shl)?);
+    assert!(rt; is_binary(alloc, "lshr i8 1, 2", BinOp::LShr)?);
+    assert!(rt; is_binary(alloc, "ashr i8 1, 2", BinOp::AShr)?);
+    assert!(rt; is_binary(alloc, "and i8 1, 2", BinOp::And)?);
+    assert!(rt; is_binary(alloc, "or disjoint i8 1, 2", BinOp::Or)?);
+    assert!(rt; is_binary(alloc, "xor i8 1, 2", BinOp::Xor)?);
+    Ok(())
+}
+
+/// Whether the text is a comparison by this predicate.
+fn is_compare(alloc: Global, text: &str, pred: Pred) -> Result<bool, Fail> {
+    let bytes = text.as_bytes();
+    if bytes.len() > 4_194_304 {
+        return Ok(false);
+    }
+    let item = read_instruction(alloc, bytes)?;
+    match &item {
+        Item::Instr(None, Op::Cmp(found, _, _, _)) => Ok(*found == pred),
+        _ => Ok(false),
+    }
+}
+
+#[test]
+fn words_of_predicates(rt: HostRuntime) -> Result<(), Fail> {
+    let alloc = rt.alloc();
+    assert!(rt; is_compare(alloc, "icmp eq i8 1, 2", Pred::Eq)?);
+    assert!(rt; is_compare(alloc, "icmp ne i8 1, 2", Pred::Ne)?);
+    assert!(rt; is_compare(alloc, "icmp ugt i8 1, 2", Pred::Ugt)?);
+    assert!(rt; is_compare(alloc, "icmp uge i8 1, 2", Pred::Uge)?);
+    assert!(rt; is_compare(alloc, "icmp ult i8 1, 2", Pred::Ult)?);
+    assert!(rt; is_compare(alloc, "icmp ule i8 1, 2", Pred::Ule)?);
+    assert!(rt; is_compare(alloc, "icmp sgt i8 1, 2", Pred::Sgt)?);
+    assert!(rt; is_compare(alloc, "icmp sge i8 1, 2", Pred::Sge)?);
+    assert!(rt; is_compare(alloc, "icmp slt i8 1, 2", Pred::Slt)?);
+    assert!(rt; is_compare(alloc, "icmp sle i8 1, 2", Pred::Sle)?);
+    Ok(())
+}
+
+/// Whether the text is this conversion.
+fn is_cast(alloc: Global, text: &str, cast: Cast) -> Result<bool, Fail> {
+    let bytes = text.as_bytes();
+    if bytes.len() > 4_194_304 {
+        return Ok(false);
+    }
+    let item = read_instruction(alloc, bytes)?;
+    match &item {
+        Item::Instr(None, Op::Cast(found, _, _, _)) => Ok(*found == cast),
+        _ => Ok(false),
+    }
+}
+
+#[test]
+fn words_of_conversions(rt: HostRuntime) -> Result<(), Fail> {
+    let alloc = rt.alloc();
+    assert!(rt; is_cast(alloc, "trunc i8 1 to i1", Cast::Trunc)?);
+    assert!(rt; is_cast(alloc, "zext nneg i8 1 to i16", Cast::ZExt)?);
+    assert!(rt; is_cast(alloc, "sext i8 1 to i16", Cast::SExt)?);
+    assert!(rt; is_cast(alloc, "ptrtoint ptr null to i64", Cast::PtrToInt)?);
+    assert!(rt; is_cast(alloc, "inttoptr i64 1 to ptr", Cast::IntToPtr)?);
     Ok(())
 }
 

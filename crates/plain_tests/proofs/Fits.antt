@@ -74,7 +74,7 @@ place_fits code at i c e = subst (λ d. FitsPlace d at i) (sym c.is) (fits code.
 
 -- ---- cases
 
-pub case_fits : (code : Code) (f : ℕ) (args input : List ℕ) → IsCode trials code → f < 8 → AreArguments (function_at (trials []) f).params args → length input ≤ 65536 → FitsCase code (case_of f args input)
+pub case_fits : (code : Code) (f : ℕ) (args input : List ℕ) → IsCode trials code → f < 10 → AreArguments (function_at (trials []) f).params args → length input ≤ 65536 → FitsCase code (case_of f args input)
 case_fits code f args input c l h few =
     let P : Code → Type 0 = λ d. FitsCase d (case_of f args input) in
     subst P (sym c.is) (record { defined = l; args = h; input = few; some = lit≤ tt; few = lit≤ tt })

@@ -1,12 +1,12 @@
 -- The modules that the tests run, as codes.
 use Rattle.std.specs.Prelude.{◌≡◌, ℕ, ◌+◌, List, [], ◌∷◌, ◌++◌, length, map, replicate, Option, Some, None}
-use Rattle.am_base.specs.declared.word.Width.TheVariants.{W8, W32, W64}
+use Rattle.am_base.specs.declared.word.Width.TheVariants.{W8, W16, W32, W64}
 use Rattle.am_base.specs.declared.word.BinOp.TheVariants.{Add, SDiv, Shl}
-use Rattle.am_base.specs.declared.word.Cast.TheVariants.{Trunc, SExt, PtrToInt, IntToPtr}
+use Rattle.am_base.specs.declared.word.Cast.TheVariants.{Trunc, ZExt, SExt, PtrToInt, IntToPtr}
 use Rattle.code_form.specs.declared.instr.Operand.TheVariants.{Reg, Word}
 use Rattle.code_form.specs.declared.instr.Callee.TheVariants.{Func as CallFunc, PutChar, GetChar, Exit}
 use Rattle.code_form.specs.declared.instr.Instr.{Instr}
-use Rattle.code_form.specs.declared.instr.Instr.TheVariants.{Bin, Cast, Freeze, Alloca, Load, Store, Call, Ret, Unreachable}
+use Rattle.code_form.specs.declared.instr.Instr.TheVariants.{Bin, Cast, Freeze, Alloca, Load, Store, Get, Call, Ret, Unreachable}
 use Rattle.code_form.specs.declared.code.TyScalar.{TyScalar}
 use Rattle.code_form.specs.declared.code.TyScalar.TheVariants.{Int, Ptr}
 use Rattle.code_form.specs.declared.code.Func.{Func}
@@ -29,6 +29,8 @@ funcs =
     ∷ func_of 109 [] None 1 (Ptr ∷ []) 16 2
     ∷ func_of 99 (Int W32 ∷ []) (Some (Int W64)) 6 (Int W32 ∷ Int W32 ∷ Int W8 ∷ Int W64 ∷ Ptr ∷ Int W64 ∷ []) 18 6
     ∷ func_of 101 [] None 1 (Int W32 ∷ []) 24 3
+    ∷ func_of 108 [] (Some (Int W32)) 4 (Ptr ∷ Ptr ∷ Int W16 ∷ Int W32 ∷ []) 27 6
+    ∷ func_of 116 (Int W32 ∷ []) (Some (Int W32)) 5 (Int W32 ∷ Ptr ∷ Ptr ∷ Ptr ∷ Int W32 ∷ []) 33 6
     ∷ []
 
 --     define i32 @g() {
@@ -98,6 +100,30 @@ converts = Freeze (Reg 0) ∷ Cast Trunc W32 W8 (Reg 1) ∷ Cast SExt W8 W64 (Re
 abbrev pub exits : List Instr
 exits = Call GetChar [] ∷ Call Exit (Reg 0 ∷ []) ∷ Unreachable ∷ []
 
+--     define i32 @l() {
+--       %p = alloca i64
+--       store i64 578437695752307201, ptr %p
+--       %q = getelementptr i8, ptr %p, i64 1
+--       %x = load i16, ptr %q
+--       %y = zext i16 %x to i32
+--       ret i32 %y
+--     }
+abbrev pub loads_inside : List Instr
+loads_inside = Alloca 8 8 (Word 1) ∷ Store W64 (Word 578437695752307201) (Reg 0) ∷ Get (Reg 0) 1 [] ∷ Load W16 (Reg 1) ∷ Cast ZExt W16 W32 (Reg 2) ∷ Ret (Some (Reg 3)) ∷ []
+
+--     %T = type { i8, [2 x i32] }
+--     define i32 @t(i32 %k) {
+--       %p = alloca %T
+--       %q = getelementptr %T, ptr %p, i64 1, i32 1, i32 %k
+--       store i32 77, ptr %q
+--       %r = getelementptr %T, ptr %p, i64 0, i32 1, i64 1
+--       %x = load i32, ptr %r
+--       ret i32 %x
+--     }
+abbrev pub goes_into_a_struct : List Instr
+goes_into_a_struct =
+    Alloca 12 4 (Word 1) ∷ Get (Reg 1) 16 ((4, W32, Reg 0) ∷ []) ∷ Store W32 (Word 77) (Reg 2) ∷ Get (Reg 1) 8 [] ∷ Load W32 (Reg 3) ∷ Ret (Some (Reg 4)) ∷ []
+
 abbrev pub results : List (Option ℕ)
 results =
     Some 0 ∷ Some 1 ∷ None ∷ Some 2 ∷ None
@@ -108,13 +134,15 @@ results =
     ∷ Some 0 ∷ None
     ∷ Some 1 ∷ Some 2 ∷ Some 3 ∷ Some 4 ∷ Some 5 ∷ None
     ∷ Some 0 ∷ None ∷ None
+    ∷ Some 0 ∷ None ∷ Some 1 ∷ Some 2 ∷ Some 3 ∷ None
+    ∷ Some 1 ∷ Some 2 ∷ None ∷ Some 3 ∷ Some 4 ∷ None
     ∷ []
 
 -- the code of all of them
 abbrev pub trials : List ℕ → Code
 trials memory = record {
   funcs = funcs;
-  instrs = stores_zero ++ (divides ++ (crosses_a_page ++ (shifts ++ (puts ++ (takes_all ++ (converts ++ exits))))));
+  instrs = stores_zero ++ (divides ++ (crosses_a_page ++ (shifts ++ (puts ++ (takes_all ++ (converts ++ (exits ++ (loads_inside ++ goes_into_a_struct))))))));
   results = results;
   memory = memory;
   const_end = 1024;

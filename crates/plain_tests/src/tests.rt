@@ -83,6 +83,11 @@ fn funcs(alloc: Global) -> Result<Items<Func>, OutOfMemory>
     let types = [INT, INT, byte, LONG, PTR, LONG];
     all.push(func(alloc, b'c', &[INT], Some(LONG), &types, 18, 6)?)?;
     all.push(func(alloc, b'e', &[], None, &[INT], 24, 3)?)?;
+    let half = TyScalar::Int(Width::W16);
+    let types = [PTR, PTR, half, INT];
+    all.push(func(alloc, b'l', &[], Some(INT), &types, 27, 6)?)?;
+    let types = [INT, PTR, PTR, PTR, INT];
+    all.push(func(alloc, b't', &[INT], Some(INT), &types, 33, 6)?)?;
     Ok(all)
 }
 
@@ -99,6 +104,8 @@ fn instrs(alloc: Global) -> Result<Items<Instr>, OutOfMemory>
 {
     let put = put(alloc, 65)?;
     let get = Instr::Call(Callee::GetChar, Items::new(alloc));
+    let scaled = Items::from_slice(alloc, &[(4, W, reg(0))])?;
+    let into = Instr::Get(reg(1), 16, scaled);
     let exit = Instr::Call(Callee::Exit, Items::from_slice(alloc, &[reg(0)])?);
     Ok(Items::from_vec(vec![in alloc;
         Instr::Alloca(4, 4, word(1)),
@@ -128,6 +135,18 @@ fn instrs(alloc: Global) -> Result<Items<Instr>, OutOfMemory>
         get,
         exit,
         Instr::Unreachable,
+        Instr::Alloca(8, 8, word(1)),
+        Instr::Store(Width::W64, word(578437695752307201), reg(0)),
+        Instr::Get(reg(0), 1, Items::new(alloc)),
+        Instr::Load(Width::W16, reg(1)),
+        Instr::Cast(Cast::ZExt, Width::W16, W, reg(2)),
+        Instr::Ret(Some(reg(3))),
+        Instr::Alloca(12, 4, word(1)),
+        into,
+        Instr::Store(W, word(77), reg(2)),
+        Instr::Get(reg(1), 8, Items::new(alloc)),
+        Instr::Load(W, reg(3)),
+        Instr::Ret(Some(reg(4))),
     ]?))
 }
 
@@ -183,6 +202,18 @@ fn results(alloc: Global) -> Result<Items<Option<u32>>, OutOfMemory>
         Some(0),
         None,
         None,
+        Some(0),
+        None,
+        Some(1),
+        Some(2),
+        Some(3),
+        None,
+        Some(1),
+        Some(2),
+        None,
+        Some(3),
+        Some(4),
+        None,
     ];
     Ok(Items::from_slice(alloc, &all)?)
 }
@@ -221,7 +252,7 @@ fn run(
 
 /// The run of a function of the trials as it stands.
 fn original(alloc: Global, function: u32, args: &[u64], input: &[u8]) -> Result<Alone, OutOfMemory>
-    requires defined { function < 8 }
+    requires defined { function < 10 }
     requires args { AreArguments (function_at (trial.trials []) function).params args.now }
     requires input { length input.now ≤ 65536 }
 {
@@ -239,7 +270,7 @@ fn mutated(
     args: &[u64],
     input: &[u8],
 ) -> Result<Alone, OutOfMemory>
-    requires defined { function < 8 }
+    requires defined { function < 10 }
     requires args { AreArguments (function_at (trial.trials []) function).params args.now }
     requires input { length input.now ≤ 65536 }
     requires fits { (memory : List ℕ) → fits_by memory place with ≡ true }
@@ -374,6 +405,76 @@ fn reads_what_is_not_set(rt: HostRuntime) -> Result<(), Fail> {
         unset,
         1,
         &[],
+    );
+    Ok(())
+}
+
+/// The lowest byte stands first, in stores and loads of every width.
+#[test]
+fn bytes_of_words(rt: HostRuntime) -> Result<(), Fail> {
+    let alloc = rt.alloc();
+    expect_word(&rt, original(alloc, 8, &[], &[])?, 0x0302, 6);
+    let with = Instr::Store(W, word(0xddcc_bbaa), reg(0));
+    expect_word(&rt, mutated(alloc, 28, with, 8, &[], &[])?, 0xccbb, 6);
+    let with = Instr::Store(Width::W16, word(0xbbaa), reg(0));
+    expect_word(&rt, mutated(alloc, 28, with, 8, &[], &[])?, 0x00bb, 6);
+    let with = Instr::Store(Width::W8, word(0xaa), reg(1));
+    let unset = Ending::Trap(Trap::UnsetRegister);
+    expect(&rt, mutated(alloc, 28, with, 8, &[], &[])?, unset, 2, &[]);
+    let with = Instr::Store(Width::W64, word(0x0807_0605_0403_0201), reg(0));
+    expect_word(&rt, mutated(alloc, 2, with, 0, &[], &[])?, 0x0403_0201, 5);
+    Ok(())
+}
+
+#[test]
+fn paths_into_structs(rt: HostRuntime) -> Result<(), Fail> {
+    let alloc = rt.alloc();
+    // two elements back from the second struct is the last element of the first
+    expect_word(&rt, original(alloc, 9, &[0xffff_fffe], &[])?, 77, 6);
+    // three back is the first one, which is not looked at
+    expect_word(&rt, original(alloc, 9, &[0xffff_fffd], &[])?, 0, 6);
+    // one back is past the first struct
+    let out = Ending::Trap(Trap::AddressRange);
+    expect(&rt, original(alloc, 9, &[0xffff_ffff], &[])?, out, 3, &[]);
+    Ok(())
+}
+
+#[test]
+fn other_operations(rt: HostRuntime) -> Result<(), Fail> {
+    let alloc = rt.alloc();
+    let least = [0x8000_0000];
+    let with = Instr::Bin(BinOp::Mul, W, reg(0), word(3));
+    expect_word(
+        &rt,
+        mutated(alloc, 5, with, 1, &least, &[])?,
+        0x8000_0000,
+        2,
+    );
+    let with = Instr::Bin(BinOp::UDiv, W, reg(0), word(2));
+    expect_word(
+        &rt,
+        mutated(alloc, 5, with, 1, &least, &[])?,
+        0x4000_0000,
+        2,
+    );
+    let with = Instr::Bin(BinOp::SRem, W, reg(0), word(3));
+    expect_word(
+        &rt,
+        mutated(alloc, 5, with, 1, &least, &[])?,
+        0xffff_fffe,
+        2,
+    );
+    let with = Instr::Bin(BinOp::SRem, W, reg(0), word(0xffff_ffff));
+    let over = Ending::Trap(Trap::DivideOverflow);
+    expect(&rt, mutated(alloc, 5, with, 1, &least, &[])?, over, 1, &[]);
+    let with = Instr::Bin(BinOp::URem, W, reg(0), word(3));
+    expect_word(&rt, mutated(alloc, 5, with, 1, &least, &[])?, 2, 2);
+    let with = Instr::Bin(BinOp::Xor, W, reg(0), word(0xffff_ffff));
+    expect_word(
+        &rt,
+        mutated(alloc, 5, with, 1, &least, &[])?,
+        0x7fff_ffff,
+        2,
     );
     Ok(())
 }
