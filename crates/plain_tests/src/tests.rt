@@ -409,7 +409,8 @@ fn reads_what_is_not_set(rt: HostRuntime) -> Result<(), Fail> {
     Ok(())
 }
 
-/// The lowest byte stands first, in stores and loads of every width.
+/// The lowest byte stands first: stores of 16, 32 and 64 bits, and loads of 16 and 32. A store to a
+/// register that isn't set yet traps.
 #[test]
 fn bytes_of_words(rt: HostRuntime) -> Result<(), Fail> {
     let alloc = rt.alloc();
