@@ -1,6 +1,7 @@
-pub mod Layout
 pub mod Places
 pub mod Sound
 pub mod Variant
 pub mod Fit
 pub mod Sites
+pub use Rattle.type_layout.specs.Layout
+pub use Rattle.type_layout.specs.Types

@@ -14,4 +14,5 @@ pub use code::{Block, Code, Func, Place, TyScalar};
 pub use instr::{Callee, Instr, Operand};
 pub use same::same_instr;
 pub use sign::PortSign;
+pub use type_layout::{Ty, align_of, offset, size_of};
 pub use variants::Variants;
