@@ -26,9 +26,9 @@ use Rattle.change_set.specs.Same.{same_change}
 abbrev pub next_by : Code → Table → Answers → ℕ → State → Change
 next_by code table answers v s = next_of code answers s (result_at code s.running.place) (instr_of code table s.running.place v)
 
--- a number that stands for an instruction at a place of the code
-abbrev pub is_known : Code → Table → ℕ → ℕ → Bool
-is_known code table at v = nat_lt at (length code.instrs) && nat_le v (length (replacements_at table at))
+-- a number that the table gives at a place, and 0 at every place
+abbrev pub is_known : Table → ℕ → ℕ → Bool
+is_known table at v = nat_le v (length (replacements_at table at))
 
 abbrev pub is_port : ℕ → Callee → Bool
 is_port p (Port q) = p == q
@@ -43,7 +43,7 @@ abbrev pub machine_of : Code → Table → Answers → Meanings State Change
 machine_of code table answers = record {
   place = λ s. s.running.place;
   ended = λ s. is_some s.ending;
-  knows = is_known code table;
+  knows = is_known table;
   next = next_by code table answers;
   after = after_change code;
   weight = λ c. pages_of c.bytes;

@@ -52,6 +52,7 @@ impl Variants {
         ensures some { 1 ≤ result }
         ensures few { result ≤ 65536 }
         ensures unchanged { chosen_by self.now 0 ≡ None }
+        ensures given { (m at : ℕ) → variant_of self.now m at ≤ length (replacements_at self.now at) }
     {
         self.chosen.len() as u32
     }
