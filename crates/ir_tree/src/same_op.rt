@@ -21,16 +21,15 @@ fn same_index(x: &(TyText, i128), y: &(TyText, i128)) -> bool
 fn same_indices(xs: &[(TyText, i128)], ys: &[(TyText, i128)]) -> bool
     ensures { IsTrue result ↔ (xs.now ≡ ys.now) }
 {
-    match (xs.split_first(), ys.split_first()) {
-        (None, None) => true,
-        (Some((x, xs)), Some((y, ys))) => {
-            if !same_index(x, y) {
-                return false;
-            }
-            same_indices(xs, ys)
-        }
-        _ => false,
+    if xs.len() != ys.len() {
+        return false;
     }
+    'each: for (i, x) in xs.iter().enumerate() {
+        if !same_index(x, &ys[i]) {
+            return false;
+        }
+    }
+    true
 }
 
 fn same_operand(x: &(TyText, Opd), y: &(TyText, Opd)) -> bool
@@ -45,16 +44,15 @@ fn same_operand(x: &(TyText, Opd), y: &(TyText, Opd)) -> bool
 fn same_operands(xs: &[(TyText, Opd)], ys: &[(TyText, Opd)]) -> bool
     ensures { IsTrue result ↔ (xs.now ≡ ys.now) }
 {
-    match (xs.split_first(), ys.split_first()) {
-        (None, None) => true,
-        (Some((x, xs)), Some((y, ys))) => {
-            if !same_operand(x, y) {
-                return false;
-            }
-            same_operands(xs, ys)
-        }
-        _ => false,
+    if xs.len() != ys.len() {
+        return false;
     }
+    'each: for (i, x) in xs.iter().enumerate() {
+        if !same_operand(x, &ys[i]) {
+            return false;
+        }
+    }
+    true
 }
 
 fn same_entry(x: &(Opd, Name), y: &(Opd, Name)) -> bool
@@ -69,16 +67,15 @@ fn same_entry(x: &(Opd, Name), y: &(Opd, Name)) -> bool
 fn same_entries(xs: &[(Opd, Name)], ys: &[(Opd, Name)]) -> bool
     ensures { IsTrue result ↔ (xs.now ≡ ys.now) }
 {
-    match (xs.split_first(), ys.split_first()) {
-        (None, None) => true,
-        (Some((x, xs)), Some((y, ys))) => {
-            if !same_entry(x, y) {
-                return false;
-            }
-            same_entries(xs, ys)
-        }
-        _ => false,
+    if xs.len() != ys.len() {
+        return false;
     }
+    'each: for (i, x) in xs.iter().enumerate() {
+        if !same_entry(x, &ys[i]) {
+            return false;
+        }
+    }
+    true
 }
 
 fn same_case(x: &(TyText, Opd, Name), y: &(TyText, Opd, Name)) -> bool
@@ -96,16 +93,15 @@ fn same_case(x: &(TyText, Opd, Name), y: &(TyText, Opd, Name)) -> bool
 fn same_cases(xs: &[(TyText, Opd, Name)], ys: &[(TyText, Opd, Name)]) -> bool
     ensures { IsTrue result ↔ (xs.now ≡ ys.now) }
 {
-    match (xs.split_first(), ys.split_first()) {
-        (None, None) => true,
-        (Some((x, xs)), Some((y, ys))) => {
-            if !same_case(x, y) {
-                return false;
-            }
-            same_cases(xs, ys)
-        }
-        _ => false,
+    if xs.len() != ys.len() {
+        return false;
     }
+    'each: for (i, x) in xs.iter().enumerate() {
+        if !same_case(x, &ys[i]) {
+            return false;
+        }
+    }
+    true
 }
 
 fn same_typed(x: &Option<(TyText, Opd)>, y: &Option<(TyText, Opd)>) -> bool
