@@ -18,3 +18,4 @@ pub mod StraightLaw
 pub mod StraightShapes
 pub mod Apart
 pub mod ChangeLaw
+pub mod LightChanges

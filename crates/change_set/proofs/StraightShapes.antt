@@ -83,7 +83,7 @@ differing_real bytes (b ∷ new) at h =
     differs : (b : ℕ) → get_or bytes at 0 ≡ b → (get_or bytes at 0 == b) ≡ false → ⊥
     differs b e unlike = grind (arith, nat_tests)
 
-length-bytes_from : (k n : ℕ) → length (bytes_from k n) ≡ k
+pub length-bytes_from : (k n : ℕ) → length (bytes_from k n) ≡ k
 length-bytes_from zero n = refl
 length-bytes_from (suc k) n = ap suc (length-bytes_from k (n / 256))
 

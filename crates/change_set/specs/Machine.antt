@@ -1,5 +1,5 @@
 -- The machine of these definitions, as one of the machines of which the traces are said.
-use Rattle.std.specs.Prelude.{ℕ, Bool, false, ◌==◌, ◌&&◌, nat_le, nat_lt, is_some, if◌then◌else◌, length, unwrap_or}
+use Rattle.std.specs.Prelude.{ℕ, Bool, false, ◌==◌, ◌&&◌, nat_le, is_some, if◌then◌else◌, length, unwrap_or}
 use Rattle.am_base.specs.declared.outcome.Ending.TheVariants.{Budget}
 use Rattle.am_base.specs.declared.outcome.Outcome.{Outcome}
 use Rattle.code_form.specs.declared.instr.Callee.{Callee}
