@@ -15,12 +15,12 @@ use Rattle.traces.specs.Trace.{Trial, trace}
 use Rattle.traces.specs.Together.{below}
 use Rattle.traces.specs.Work.{steps, tries, alone, executions, splits, total_cost}
 use Rattle.traces.specs.Configuration.{Execution, is_live, IsExecution}
-use Rattle.traces.specs.Cost.{cost_so_far, step_cost, try_cost, load_cost, asks_cost}
+use Rattle.traces.specs.Cost.{cost_so_far, step_cost, try_cost, load_cost, asks_cost, split_cost}
 use Rattle.traces.proofs.Below.{length-below}
 use Rattle.traces.proofs.Cost.{all_spent, spent_at_most}
 use Rattle.traces.proofs.Ends.{ended_count}
 use Rattle.traces.proofs.Permutations.{cancel_front, flat_map_moved}
-use Rattle.traces.proofs.Splits.{splits_written, split_cost}
+use Rattle.traces.proofs.Splits.{splits_written}
 use Rattle.traces.proofs.Steps.{length_map}
 use Rattle.exec_core.specs.Analysed.{IsGoing, IsStopped, AreClasses, end_of, class_from, class_numbers}
 use Rattle.exec_core.specs.Counted.{RoseBy, totals}

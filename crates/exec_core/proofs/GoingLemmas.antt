@@ -16,14 +16,14 @@ use Rattle.traces.specs.Trace.{Trial}
 use Rattle.traces.specs.Together.{below}
 use Rattle.traces.specs.Work.{total_cost}
 use Rattle.traces.specs.Configuration.{Execution, opening, is_live, parts, IsExecution, IsConfiguration}
-use Rattle.traces.specs.Cost.{cost_so_far, cost_of_turn, step_cost, try_cost, load_cost, asks_cost}
+use Rattle.traces.specs.Cost.{cost_so_far, cost_of_turn, step_cost, try_cost, load_cost, asks_cost, same_split, split_cost}
 use Rattle.traces.proofs.Cost.{spent_turn, spent_at_most}
 use Rattle.traces.proofs.Bools.{on_bool}
 use Rattle.traces.proofs.Lists.{contains_here}
 use Rattle.exec_core.proofs.PieceLemmas.{contains_map}
 use Rattle.traces.proofs.Permutations.{cancel_front, configuration_moved}
 use Rattle.traces.proofs.Room.{steps_within, tries_within, load_within, asks_within}
-use Rattle.traces.proofs.Splits.{same_split, split_cost, splits_cost}
+use Rattle.traces.proofs.Splits.{splits_cost}
 use Rattle.traces.proofs.Steps.{parts_cost}
 use Rattle.traces.proofs.TurnCounts.{tries_cost, tolls_cost, weights_cost}
 use Rattle.traces.proofs.Turns.{turned_between, opening_is}

@@ -11,7 +11,7 @@ use Rattle.std.proofs.lemmas.List.Sorted.{ranks_by, sorted_far, sum_by-IsPermuta
 use Rattle.std.proofs.lemmas.Fn.{always_returns_same}
 use Rattle.traces.proofs.Bools.{on_bool}
 use Rattle.traces.proofs.Lists.{contains_cases, contains_here, contains_there, count_yes, count_no}
-use Rattle.traces.proofs.Splits.{same_split}
+use Rattle.traces.specs.Cost.{same_split}
 use Rattle.traces.proofs.Steps.{length_map}
 use Rattle.traces.proofs.Together.{lists_sound, lists_same}
 use Rattle.std.specs.Cmp.Lexicographic.{pointwise}

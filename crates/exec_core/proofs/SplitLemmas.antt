@@ -15,7 +15,7 @@ use Rattle.traces.specs.Trace.{Trial, trace}
 use Rattle.traces.specs.Together.{below, together, class_of, AreTogether}
 use Rattle.traces.specs.Work.{is_least, least_members, splits}
 use Rattle.traces.proofs.Bools.{on_bool, same_bools}
-use Rattle.traces.proofs.Splits.{splits_at}
+use Rattle.traces.specs.Cost.{splits_at}
 use Rattle.traces.proofs.Room.{length-trace}
 use Rattle.traces.proofs.Below.{any_below, below_below, has_below, IsStrictlyIncreasing-below}
 use Rattle.traces.proofs.Lists.{contains_here, contains_there, contains_cases, from_filter, to_filter}

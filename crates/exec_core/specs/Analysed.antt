@@ -14,8 +14,7 @@ use Rattle.traces.specs.Trace.{Trial}
 use Rattle.traces.specs.Together.{below}
 use Rattle.traces.specs.Work.{steps}
 use Rattle.traces.specs.Configuration.{Execution, IsConfiguration}
-use Rattle.traces.specs.Cost.{cost_so_far, step_cost, try_cost}
-use Rattle.traces.proofs.Splits.{same_split, split_cost}
+use Rattle.traces.specs.Cost.{cost_so_far, step_cost, try_cost, same_split, split_cost}
 use Rattle.exec_core.specs.Counted.{RoseBy, RoseWithin, IsBetween, counts_so_far, totals}
 use Rattle.exec_core.specs.Ends.{IsEnd}
 use Rattle.exec_core.specs.Engines.{split_seen}

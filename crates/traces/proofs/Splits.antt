@@ -7,7 +7,7 @@ use Rattle.traces.specs.Trace.{Trial, trace}
 use Rattle.traces.specs.Together.{below, together, class_of}
 use Rattle.traces.specs.Work.{is_least, least_members, splits, total_cost}
 use Rattle.traces.specs.Configuration.{Execution, is_live, is_leader, IsExecution}
-use Rattle.traces.specs.Cost.{cost_of_turn}
+use Rattle.traces.specs.Cost.{cost_of_turn, same_split, splits_at, split_cost}
 use Rattle.traces.proofs.Bools.{on_bool, same_bools}
 use Rattle.traces.proofs.Lists.{count_by-filter, count_yes, count_no}
 use Rattle.traces.proofs.Below.{count_below, any_below, one_least, has_below}
@@ -54,17 +54,7 @@ and_false : (a : Bool) → (a && false) ≡ false
 and_false true = refl
 and_false false = refl
 
-abbrev pub same_split : ℕ × List ℕ → ℕ × List ℕ → Bool
-same_split x y = x.0 == y.0 && pointwise nat_eq x.1 y.1
-
 module _ {S C : Type 0} (T : Trial S C) where
-  -- the split that mutant m leads at n, if it does
-  abbrev pub splits_at : ℕ → ℕ → List (ℕ × List ℕ)
-  splits_at m n = if is_least T m n && (nat_lt n (length (trace T m)) && nat_lt 1 (length (least_members T m n))) then (n, least_members T m n) ∷ [] else []
-
-  abbrev pub split_cost : ℕ × List ℕ → ℕ → ℕ → ℕ
-  split_cost x m n = count_by (same_split x) (splits_at m n)
-
   -- the split that a turn of e makes, if it does
   abbrev pub split_of : Execution S → List (ℕ × List ℕ)
   split_of e = let leaders = filter (is_leader T e) e.members in if nat_lt 1 (length leaders) then (e.step, leaders) ∷ [] else []
