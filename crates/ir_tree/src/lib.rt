@@ -18,6 +18,3 @@ pub use name::Name;
 pub use op::Op;
 pub use operand::{Init, Opd};
 pub use type_text::TyText;
-
-#[cfg(test)]
-mod tests;
