@@ -149,12 +149,14 @@ pub fn skip_at(kind: Option<TokenKind>, text: &[u8]) -> SkipStart
     }
 }
 
+/// Whether this is skipped among attributes: all that is skipped but a Meta.
 pub fn is_skip(start: SkipStart) -> bool
     ensures { result ≡ spec.is_skip start }
 {
     !matches!(start, SkipStart::Nothing | SkipStart::Meta)
 }
 
+/// Whether this is skipped in the head of a function, where a Meta is skipped too.
 pub fn is_head_skip(start: SkipStart) -> bool
     ensures { result ≡ spec.is_head_skip start }
 {
@@ -186,12 +188,16 @@ pub fn behind_comma(kind: Option<TokenKind>, text: &[u8]) -> TailStart
     }
 }
 
+/// Whether a part that may stand behind an instruction begins with this: an alignment or a Meta, each
+/// behind a comma.
 pub fn is_tail(start: TailStart) -> bool
     ensures { result ≡ spec.is_tail start }
 {
     matches!(start, TailStart::Align | TailStart::Meta)
 }
 
+/// Whether a part that may stand behind a global begins with this: an alignment, a section or a Meta,
+/// each behind a comma, or a Hash.
 pub fn is_global_tail(start: TailStart) -> bool
     ensures { result ≡ spec.is_global_tail start }
 {

@@ -50,6 +50,7 @@ pub fn type_at(kind: Option<TokenKind>, text: &[u8]) -> TypeStart
     }
 }
 
+/// Whether a type begins with this.
 pub fn is_type(start: TypeStart) -> bool
     ensures { result ≡ spec.is_type start }
 {
@@ -83,6 +84,7 @@ pub fn flag_at(kind: Option<TokenKind>, text: &[u8]) -> FlagStart
     }
 }
 
+/// Whether a flag of `getelementptr` begins with this.
 pub fn is_flag(start: FlagStart) -> bool
     ensures { result ≡ spec.is_flag start }
 {
@@ -248,6 +250,7 @@ pub fn op_at(kind: Option<TokenKind>, text: &[u8]) -> OpStart
     }
 }
 
+/// Whether an instruction begins with this.
 pub fn is_op(start: OpStart) -> bool
     ensures { result ≡ spec.is_op start }
 {
