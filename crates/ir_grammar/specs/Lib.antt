@@ -9,3 +9,4 @@ pub mod Operands
 pub mod Ops
 pub mod Items
 pub mod Modules
+pub mod Instructions

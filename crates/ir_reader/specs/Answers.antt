@@ -1,12 +1,11 @@
 -- What `read` and `read_instruction` answer of tokens and texts.
-use Rattle.std.specs.Prelude.{◌≡◌, ℕ, Bool, true, List, [], Some, None, Result, Ok, Err}
-use Rattle.ir_form.specs.declared.token.Token.{Token}
+use Rattle.std.specs.Prelude.{◌≡◌, ℕ, Bool, true, Some, None, Result, Ok, Err}
 use Rattle.ir_form.specs.Bytes.{Text}
-use Rattle.ir_form.specs.Tokens.{HasTokens}
 use Rattle.ir_tree.specs.declared.op.Op.{Op}
 use Rattle.ir_tree.specs.declared.item.Item.{Item}
 use Rattle.ir_tree.specs.declared.item.Item.TheVariants as tree
-use Rattle.ir_grammar.specs.Lexeme.{Lexemes, lexemes}
+use Rattle.ir_grammar.specs.Instructions.{AreInstruction, IsInstruction}
+use Rattle.ir_grammar.specs.Lexeme.{Lexemes}
 use Rattle.ir_grammar.specs.Items.{SomeItem, item}
 use Rattle.ir_grammar.specs.Modules.{is_allowed, IsUnread}
 use Rattle.ir_reader.specs.declared.error.ReadError.{ReadError}
@@ -35,18 +34,18 @@ IsReadAt inside at ts (Err error.OutOfMemory) rest = Unit {0}
 pub record IsWhole (ts : Lexemes) (x : Item) : Type 0 where
   pub op : Op
   pub bare : x ≡ tree.Instr None op
-  pub whole : item.reads ts (Some x) []
+  pub whole : AreInstruction ts op
 
 abbrev pub SaysWhole : Lexemes → Result Item InstrError → Type 0
 SaysWhole ts (Ok x) = IsWhole ts x
 SaysWhole ts (Err instr_error.NotAnInstruction) = (x : Item) → IsWhole ts x → ⊥
 SaysWhole ts (Err instr_error.OutOfMemory) = Unit {0}
 
--- the whole text is one instruction without a written result
+-- the item is the one instruction, without a written result, that is the whole text
 pub record IsWholeInstruction (text : Text) (x : Item) : Type 0 where
-  pub tokens : List Token
-  pub cut : HasTokens text tokens
-  pub whole : IsWhole (lexemes text tokens) x
+  pub op : Op
+  pub bare : x ≡ tree.Instr None op
+  pub whole : IsInstruction text op
 
 -- the text is no such instruction. Want of memory may come at any text.
 abbrev pub IsNoInstruction : Text → InstrError → Type 0

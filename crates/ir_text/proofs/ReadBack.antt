@@ -10,12 +10,12 @@ use Rattle.ir_tree.specs.declared.op.Op.{Op}
 use Rattle.ir_tree.specs.declared.item.Item.{Item}
 use Rattle.ir_tree.specs.declared.item.Item.TheVariants as tree
 use Rattle.ir_grammar.specs.Lexeme.{lexemes}
-use Rattle.ir_grammar.specs.Items.{item}
+use Rattle.ir_grammar.specs.Instructions.{AreInstruction, IsInstruction}
 use Rattle.ir_grammar.specs.Modules.{IsModule}
 use Rattle.ir_grammar.proofs.ModuleLemmas.{module-one}
 use Rattle.ir_text.specs.Parts.{op_lexemes, item_lexemes}
 use Rattle.ir_text.specs.Lines.{canon, instruction_text}
-use Rattle.ir_text.specs.Texts.{AreBytes, IsTextOf, IsInstruction}
+use Rattle.ir_text.specs.Texts.{AreBytes, IsTextOf}
 use Rattle.ir_text.proofs.Gives.{AllBytes, EachOf}
 use Rattle.ir_text.proofs.Values.{bytes-take, bytes-drop}
 use Rattle.ir_text.proofs.OpsBack.{OpBack}
@@ -59,7 +59,7 @@ unfolding item_lexemes
 op-reads o b =
     let plain = (plain-back o b).back in
     let c = cut-tokens (instruction_text o) (op_lexemes o) (cut-alone (op_lexemes o) b.back.fixed) in
-    record { tokens = c.0; cut = c.1; whole = subst (λ ls. item.reads ls (Some (tree.Instr None o)) []) (append-nil (op_lexemes o) ∙ sym c.2) (plain.again [] nothing-behind) }
+    record { tokens = c.0; cut = c.1; whole = subst (λ ls. AreInstruction ls o) (append-nil (op_lexemes o) ∙ sym c.2) (plain.again [] nothing-behind) }
 
 -- one that stands in a module
 pub instruction-reads : (text : Text) (items : List Item) (n : Option Name) (o : Op) → AreBytes text → IsTextOf text items → Contains items (tree.Instr n o) → IsInstruction (instruction_text o) o

@@ -1,16 +1,14 @@
--- Which text is that of a module, and of an instruction.
-use Rattle.std.specs.Prelude.{◌≡◌, ℕ, nat_lt, List, [], ◌∷◌, ◌++◌, Some, None}
+-- Which text is that of a module, and which names stand plainly.
+use Rattle.std.specs.Prelude.{◌≡◌, ℕ, nat_lt, List, [], ◌∷◌, ◌++◌, Some}
 use Rattle.ir_form.specs.Bytes.{Text, Each}
 use Rattle.ir_form.specs.Tokens.{IsToken, HasTokens}
 use Rattle.ir_form.specs.declared.token.Token.{Token}
 use Rattle.ir_form.specs.declared.token.TokenKind.TheVariants as kind
 use Rattle.ir_tree.specs.declared.name.Name.TheVariants as name
-use Rattle.ir_tree.specs.declared.op.Op.{Op}
 use Rattle.ir_tree.specs.declared.item.Item.{Item}
 use Rattle.ir_tree.specs.declared.item.Item.TheVariants as tree
 use Rattle.ir_grammar.specs.Lexeme.{lexemes}
 use Rattle.ir_grammar.specs.Words.{local_of, global_of, label_of}
-use Rattle.ir_grammar.specs.Items.{item}
 use Rattle.ir_grammar.specs.Modules.{IsModule}
 
 -- each number of the text is a byte
@@ -23,12 +21,6 @@ pub record IsTextOf (text : Text) (items : List Item) : Type 0 where
   pub starts : List ℕ
   pub cut : HasTokens text tokens
   pub whole : IsModule (lexemes text tokens) items starts
-
--- the text is cut into tokens, and they are this instruction, without a result
-pub record IsInstruction (text : Text) (o : Op) : Type 0 where
-  pub tokens : List Token
-  pub cut : HasTokens text tokens
-  pub whole : item.reads (lexemes text tokens) (Some (tree.Instr None o)) []
 
 -- the item is an instruction
 abbrev pub IsInstr : Item → Type 0

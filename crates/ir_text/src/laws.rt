@@ -1,8 +1,9 @@
 ghost use Rattle.ir_form.specs.Bytes.{Text};
 ghost use Rattle.ir_form.specs.Tokens.{Fault, HasFault};
+ghost use Rattle.ir_grammar.specs.Instructions.{IsInstruction};
 ghost use Rattle.ir_text.specs.Lines.{canon, instruction_text};
 ghost use Rattle.ir_text.specs.Spelling.{is_plain, is_plain_label};
-ghost use Rattle.ir_text.specs.Texts.{AreBytes, IsInstruction, IsTextOf, ReadsAsGlobal, ReadsAsLabel, ReadsAsLocal};
+ghost use Rattle.ir_text.specs.Texts.{AreBytes, IsTextOf, ReadsAsGlobal, ReadsAsLabel, ReadsAsLocal};
 ghost use Rattle.ir_tree.specs.declared.item.Item.{Item};
 ghost use Rattle.ir_tree.specs.declared.item.Item.TheVariants as tree;
 ghost use Rattle.ir_tree.specs.declared.name.Name.{Name};
