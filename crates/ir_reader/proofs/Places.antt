@@ -1,5 +1,5 @@
 -- Where the tokens of a text lie, and how many there are.
-use Rattle.std.proofs.Common.{ℕ, ◌+◌, ◌≤◌, List, [], ◌∷◌, length, arith}
+use Rattle.std.proofs.Common.{◌≡◌, ℕ, ◌+◌, ◌-◌, ◌<◌, ◌≤◌, List, [], ◌∷◌, length, slice_index_or, arith}
 use Rattle.ir_form.specs.declared.token.Token.{Token}
 use Rattle.ir_form.specs.Bytes.{Text}
 use Rattle.ir_form.specs.Tokens.{HasTokens, Rise}
@@ -17,5 +17,15 @@ rise_lie at (t ∷ ts) text (from, some, more) = let e = rise_end t.to ts (lengt
 pub tokens_lie : (text : Text) (ts : List Token) → HasTokens text ts → LieIn text ts
 tokens_lie text ts h = rise_lie 0 ts text (HasTokens-Rise text ts h)
 
-pub tokens_few : (text : Text) (ts : List Token) → HasTokens text ts → length ts ≤ length text
-tokens_few text ts h = let e = rise_end 0 ts (length text) (HasTokens-Rise text ts h) in omega arith
+rise_last : (at : ℕ) (t : Token) (ts : List Token) (end : ℕ) (d : Token) → Rise at (t ∷ ts) end → at + length (t ∷ ts) ≤ (slice_index_or (t ∷ ts) (length ts) d).to
+rise_last at t [] end d (from, some, more) = omega arith
+rise_last at t (u ∷ ts) end d (from, some, more) = let e = rise_last t.to u ts end d more in omega arith
+
+-- there are no more tokens than the place where the last one ends
+pub rise_few : (ts : List Token) (end last : ℕ) (d : Token) → Rise 0 ts end → 0 < length ts → last ≡ (slice_index_or ts (length ts - 1) d).to → length ts ≤ last
+rise_few [] end last d r some is = absurd (omega arith)
+rise_few (t ∷ ts) end last d r some is =
+    let e : length (t ∷ ts) - 1 ≡ length ts = omega arith in
+    let f = rise_last 0 t ts end d r in
+    let g : last ≡ (slice_index_or (t ∷ ts) (length ts) d).to = rw e at is in
+    omega arith

@@ -1,9 +1,9 @@
 ghost use Rattle.ir_cursor.specs.Cursor.{LieIn};
-ghost use Rattle.ir_form.specs.Tokens.{HasTokens};
+ghost use Rattle.ir_form.specs.Tokens.{HasTokens, Rise};
 ghost use Rattle.ir_grammar.specs.Lexeme.{lexemes};
 ghost use Rattle.ir_grammar.specs.Modules as spec;
 ghost use Rattle.ir_reader.specs.Answers.{IsBare, IsNoInstruction, IsReadAt, IsWholeInstruction, NamesUnread, SaysWhole};
-ghost use Rattle.std.specs.Prelude.{[], ◌++◌, ◌<◌, ◌≡◌, ◌≤◌, ◌^◌, ◌∷◌, IfErr, IfOk, OnOk, Some, length};
+ghost use Rattle.std.specs.Prelude.{[], ◌++◌, ◌<◌, ◌≡◌, ◌≤◌, ◌^◌, ◌∷◌, IfErr, IfOk, OnOk, Some, length, ℕ};
 
 use crate::error::{InstrError, ReadError};
 use crate::items::item;
@@ -90,6 +90,28 @@ fn keep(
     Ok(())
 }
 
+/// The place where a token ends.
+fn end_of(token: &Token) -> u32
+    ensures { result ≡ token.now.to }
+{
+    token.to
+}
+
+/// How many tokens there are. Each has a byte at least, so there are no more than the place where
+/// the last one ends.
+fn count(tokens: &[Token]) -> u32
+    requires { (end : ℕ) × Rise 0 tokens.now end }
+    ensures { result ≡ length tokens.now }
+{
+    match tokens {
+        [] => 0,
+        [.., last] => {
+            let _end = end_of(last);
+            tokens.len() as u32
+        }
+    }
+}
+
 /// The items of a module, with the first token of each.
 ///
 /// `tokens` are those of `text`, as `lex` gives them. A text that isn't a module is refused with
@@ -98,25 +120,23 @@ fn keep(
 ///
 /// LLVM Language Reference, "Module Structure". Which items there are is this project's own.
 pub fn read(alloc: Global, text: &[u8], tokens: &[Token]) -> Result<Reading, ReadError>
-    requires cut { HasTokens text.now tokens.now }
-    requires short { length text.now ≤ 4194304 }
+    requires { HasTokens text.now tokens.now }
     ensures items { IfOk result (λ r. spec.IsModule (lexemes text.now tokens.now) r.module.items r.starts) }
     ensures unread { IfErr result (λ e. NamesUnread (lexemes text.now tokens.now) e) }
 {
+    let all = count(tokens);
     let mut cursor = Cursor::new(text, tokens);
     let mut items = Items::new(alloc);
     let mut starts = Items::new(alloc);
     let mut inside = false;
     'turns: while cursor.left() > 0 {
-        let at = (tokens.len() - cursor.left()) as u32;
+        let at = all - cursor.left() as u32;
         let found = next_item(alloc, &mut cursor, inside, at)?;
         inside = leaves_open(&found);
         keep(&mut items, &mut starts, found, at)?;
     }
     if inside {
-        return Err(ReadError::NotAnItem {
-            token: tokens.len() as u32,
-        });
+        return Err(ReadError::NotAnItem { token: all });
     }
     Ok(Reading {
         module: Module { items },
