@@ -1,5 +1,12 @@
-//! Texts that are cut into tokens, read and printed. It has no code of its own, so that the reader's crate is proved without them.
+//! Texts that are cut into tokens, read, copied and printed. It has no code of its own, so that the
+//! crates below it are proved without them.
 #![tactic(auto)]
 
 #[cfg(test)]
-mod tests;
+mod expect;
+#[cfg(test)]
+mod instructions;
+#[cfg(test)]
+mod modules;
+#[cfg(test)]
+mod sizes;

@@ -3,6 +3,7 @@ ghost use Rattle.std.specs.Prelude.{◌≡◌};
 
 use am_base::{BinOp, Cast, Pred, Width};
 
+/// The word that a type of this width is written as.
 pub fn width_word(width: Width) -> &'static [u8]
     ensures { result.now ≡ spec.width_word width }
 {
@@ -15,6 +16,7 @@ pub fn width_word(width: Width) -> &'static [u8]
     }
 }
 
+/// The word that an instruction with this operation begins with.
 pub fn binary_word(op: BinOp) -> &'static [u8]
     ensures { result.now ≡ spec.binary_word op }
 {
@@ -35,6 +37,7 @@ pub fn binary_word(op: BinOp) -> &'static [u8]
     }
 }
 
+/// The word that an instruction with this conversion begins with.
 pub fn cast_word(cast: Cast) -> &'static [u8]
     ensures { result.now ≡ spec.cast_word cast }
 {
@@ -47,6 +50,7 @@ pub fn cast_word(cast: Cast) -> &'static [u8]
     }
 }
 
+/// The word that stands behind `icmp` for this predicate.
 pub fn predicate_word(pred: Pred) -> &'static [u8]
     ensures { result.now ≡ spec.predicate_word pred }
 {
