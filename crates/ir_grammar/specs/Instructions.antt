@@ -1,5 +1,5 @@
 -- Texts that are one instruction.
-use Rattle.std.specs.Prelude.{◌≡◌, List, [], Some, None}
+use Rattle.std.specs.Prelude.{List, [], Some, None}
 use Rattle.ir_form.specs.Bytes.{Text}
 use Rattle.ir_form.specs.Tokens.{HasTokens}
 use Rattle.ir_form.specs.declared.token.Token.{Token}
