@@ -65,6 +65,7 @@ module _ {M S W C : Type 0} (V : View M S W C) (lawful : IsLawful V) (a b : M) (
           asks = λ p. (let m = most (asks_cost T p) in record { least = omega (arith, going.counts.asks p); most = omega (arith, going.counts.asks p, m) });
         };
         meter = (let m = most (step_cost T) in record { least = omega (arith, going.meter); most = omega (arith, going.meter, m) });
+        beside = omega (arith, going.meter, going.counts.applied);
       }
 
   pub meter_rose : k0 ≤ k

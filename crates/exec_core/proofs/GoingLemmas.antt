@@ -239,6 +239,7 @@ module _ {M S W C : Type 0} (V : View M S W C) (lawful : IsLawful V) (a b : M) (
             counts = refused_counts T same_test x (execution_here at r.refused r.there rest p) (live_here at r.refused r.there) rest es (rest ++ parts T x) p (IsPermutation-refl (rest ++ parts T x)) going.config
                 (V.counts a) (V.counts b) (V.counts c) going.counts r.counts;
             meter = (let l = spent (step_cost T) in record { least = omega (arith, going.meter, r.meter); most = omega (arith, going.meter, r.meter, l) });
+            beside = omega (arith, going.meter, r.meter, going.counts.applied, r.applied);
           }
 
 start_cost : {W : Type 0} (f : ℕ → ℕ → ℕ) (ms : List ℕ) (w : W) → cost_so_far f (record { step = 0; members = ms; state = w } ∷ []) ≡ 0
@@ -309,4 +310,5 @@ module _ {M S W C : Type 0} (V : View M S W C) (lawful : IsLawful V) (a : M) (ta
       asks = λ p. record { least = omega (arith, s.asks p); most = omega (arith, s.asks p) };
     };
     meter = record { least = omega arith; most = omega arith };
+    beside = omega (arith, s.applied);
   }

@@ -1,6 +1,7 @@
 -- What an analysis comes to.
 --     IsGoing       after some turns: the executions are a configuration of the trial, and all counts are those of the changes made so far
---     IsStopped     after a refusal: the states of the executions that are left are out, and no count rose above its total
+--     IsStopped     after a refusal: the states of the executions that are left are out, no count rose above its total, and the meter
+--                   rose by as much as the changes applied
 --     class_from    the class that an execution has become
 --     end_of        what a class of an analysis stands for: its members, and the step and state at the end of their traces
 --     class_numbers the numbers of the states of these classes
@@ -43,6 +44,7 @@ module _ {M S W C : Type 0} (V : View M S W C) where
     pub keeps : Keeps V old new (start ∷ [])
     pub counts : RoseWithin (V.counts old) (V.counts new) (totals T)
     pub meter : IsBetween counted_before counted (counted_before + steps T)
+    pub beside : counted + (V.counts old).applied ≡ counted_before + (V.counts new).applied
 
   abbrev pub end_of : M → Class S → Execution W
   end_of m c = record { step = c.length; members = c.members; state = V.stands m c.state }

@@ -62,7 +62,8 @@ fn run_to_end<M: Machine>(
 /// splits are those of the model in `traces`, and the machine and the meter have counted exactly that work.
 ///
 /// It is refused only for want of memory. Then every state that it had out is released, the start included, and no count has risen by more than
-/// it would have. Whatever it answers, the other states that were out are out and stand for what they did.
+/// it would have. Whatever it answers, the meter has risen by one beside each change that was applied, and the other states that were out are
+/// out and stand for what they did.
 pub fn analyse<M: Machine>(
     alloc: Global,
     machine: &mut M,
@@ -100,6 +101,7 @@ pub fn analyse<M: Machine>(
         (totals (trial_of (M.view.meanings machine.old) variants.now (M.view.stands machine.old start) budget)) }
     ensures meter_within { IsBetween meter.old meter.new
         (meter.old + steps (trial_of (M.view.meanings machine.old) variants.now (M.view.stands machine.old start) budget)) }
+    ensures meter_beside_applied { meter.new + (M.view.counts machine.old).applied ≡ meter.old + (M.view.counts machine.new).applied }
 
     // The states out: those from before without the start, and on Ok those of the classes besides.
     ensures out_numbers { IfOk result (λ analysis. IsPermutation (M.view.number start ∷ M.view.out_numbers machine.new)

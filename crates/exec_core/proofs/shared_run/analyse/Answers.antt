@@ -64,3 +64,9 @@ returns-in-Err-clause-err g c = released g.M.Machine.view g.met.M.Machine.lawful
 
 pub returns-in-Err-clause-keeps : goal.returns-in-Err-clause-keeps
 returns-in-Err-clause-keeps g c = still_keeps g.M.Machine.view g.met.M.Machine.lawful (trial_of (g.M.Machine.view.meanings c.args.machine.now) c.args.variants.now (g.M.Machine.view.stands c.args.machine.now c.args.start) c.args.budget) c.args.machine.now c.run_to_end.new.machine (g.M.Machine.view.number c.args.start) c.run_to_end.new.engine c.args.meter.now c.run_to_end.new.meter c.in-Err.ensures.stopped (g.met.M.Machine.lawful.among c.args.machine.now c.args.start c.requires.out) c.release_engine.new.machine c.release_engine.ensures.out_numbers c.release_engine.ensures.keeps
+
+pub returns-in-Ok-clause-meter_beside_applied : goal.returns-in-Ok-clause-meter_beside_applied
+returns-in-Ok-clause-meter_beside_applied g c = (going_stops g.M.Machine.view g.met.M.Machine.lawful c.args.machine.now c.run_to_end.new.machine c.args.variants.now (g.M.Machine.view.stands c.args.machine.now c.args.start) c.args.budget (g.M.Machine.view.number c.args.start) c.run_to_end.new.engine c.args.meter.now c.run_to_end.new.meter c.in-Ok.ensures.going).beside
+
+pub returns-in-Err-clause-meter_beside_applied : goal.returns-in-Err-clause-meter_beside_applied
+returns-in-Err-clause-meter_beside_applied g c = omega (arith, c.in-Err.ensures.stopped.beside, c.release_engine.ensures.counts.applied)
