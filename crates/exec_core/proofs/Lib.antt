@@ -16,3 +16,4 @@ mod PlannedLemmas
 mod GoingLemmas
 mod SortLemmas
 mod EndingLemmas
+mod Marked

@@ -2,8 +2,9 @@
 use Rattle.std.proofs.Common.{◌≡◌, ℕ, zero, suc, ◌+◌, ◌≤◌, ◌<◌, Bool, true, false, ◌==◌, ◌||◌, not, List, [], ◌∷◌, ◌++◌, length, map, take, get_or, nat_eq, refl, sym, ap, ◌∙◌, subst, arith, add-one}
 use Rattle.std.specs.List.{All, IsDistinct, filter, list_any}
 use Rattle.std.proofs.lemmas.Bool.{true≢false, eqb-true, not-false}
-use Rattle.std.proofs.lemmas.List.{map-append, take_more, take-map, get_or-map}
+use Rattle.std.proofs.lemmas.List.{length-map, length-take, map-append, take_more, take-map, get_or-map}
 use Rattle.std.proofs.lemmas.List.Folds.{list_any-append}
+use Rattle.std.proofs.lemmas.List.Sums.{length-filter, count_by-le-length}
 use Rattle.std.proofs.lemmas.List.Elements.{All-nil, All-cons, recursion_from_All}
 use Rattle.std.proofs.lemmas.List.Sorted.{IsPermutation-sym, IsPermutation-to_front}
 use Rattle.std.proofs.lemmas.Map.Keys.{IsDistinct-cons, IsDistinct-IsPermutation}
@@ -23,6 +24,12 @@ pub distinct_more : (xs : List ℕ) (x : ℕ) → list_any (λ c. c == x) xs ≡
 distinct_more xs x h d =
     IsDistinct-IsPermutation nat_eq flips (x ∷ xs) (xs ++ x ∷ []) (IsPermutation-sym _ _ (IsPermutation-to_front xs x))
     (IsDistinct-cons nat_eq x xs (recursion_from_All (λ y. nat_eq x y ≡ false) xs (none_all x xs h)) d)
+
+pub few_firsts : (v : ℕ → ℕ) (members : List ℕ) (p : ℕ → Bool) → length (map v (filter p members)) ≤ length members
+few_firsts v members p = let a = length-map (filter p members) v in let b = length-filter p members in let c = count_by-le-length p members in omega arith
+
+pub few_taken : (v : ℕ → ℕ) (p : ℕ → Bool) (members : List ℕ) (i : ℕ) → length (map v (filter p (take i members))) ≤ length members
+few_taken v p members i = let a = few_firsts v (take i members) p in let b = length-take i members in omega arith
 
 module _ (v : ℕ → ℕ) (members : List ℕ) (is : IsMemberList members) where
   abbrev pub firsts : ℕ → List ℕ

@@ -1,4 +1,4 @@
-ghost use Rattle.std.specs.Prelude.{◌≡◌, ℕ, ◌+◌, ◌^◌, ◌≤◌, ◌<◌, List, length, nat_eq, OnOk};
+ghost use Rattle.std.specs.Prelude.{◌≡◌, ℕ, ◌+◌, ◌^◌, ◌≤◌, ◌<◌, List, length, nat_eq, slice_index, OnOk};
 ghost use Rattle.std.specs.List.{All, IsDistinct};
 ghost use Rattle.exec_core.specs.ClassTable.{HasClasses};
 
@@ -15,9 +15,11 @@ fn greatest(numbers: &[u32]) -> u32
     top
 }
 
-/// Makes the table at least that long.
-fn widen(table: &mut Vec<u32>, len: usize) -> Result<(), OutOfMemory>
-    ensures { OnOk result (len ≤ length table.new.items) }
+/// Makes the table at least that long. The entries that it has stay.
+pub fn widen(table: &mut Vec<u32>, len: usize) -> Result<(), OutOfMemory>
+    ensures long { OnOk result (len ≤ length table.new.items) }
+    ensures longer { length table.old.items ≤ length table.new.items }
+    ensures kept { (i : ℕ) → i < length table.old.items → slice_index table.new.items i ≡ slice_index table.old.items i }
 {
     if table.len() < len {
         table.resize(len, 0)?;

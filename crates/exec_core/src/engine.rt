@@ -21,7 +21,7 @@ pub struct Engine<S, C> {
     pub pieces: Vec<Piece<S, C>>,
     pub readied: Vec<Piece<S, C>>,
     pub made: Vec<Live<S>>,
-    /// Room for a table of classes, whose entries mean nothing between turns.
+    /// Room for a table by variant number, of marks and then of classes, whose entries mean nothing between turns.
     pub classes: Vec<u32>,
 }
 

@@ -7,6 +7,7 @@ mod engine;
 mod finish;
 pub mod laws;
 mod lives;
+mod marks;
 mod meter;
 mod pieces;
 mod plan;

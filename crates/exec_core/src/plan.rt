@@ -30,12 +30,13 @@ pub struct Planned<C> {
     pub tried: u64,
 }
 
-/// Tries the different variants of an execution's members.
+/// Tries the different variants of an execution's members. `marks` is room for a table by variant number.
 fn try_members<M: Machine>(
     alloc: Global,
     machine: &mut M,
     table: &Variants,
     e: &Live<M::State>,
+    marks: &mut Vec<u32>,
 ) -> Result<Tried<M::Change>, OutOfMemory>
     requires out { M.view.is_out machine.old e.now.state }
     requires live { IsLive M.view machine.old e.now.state }
@@ -58,14 +59,14 @@ fn try_members<M: Machine>(
     let place = machine.place(&e.state);
     let members = e.members.list(alloc)?;
     let _len = e.members.len();
-    let variants = variants_in(alloc, members.as_slice(), table, place)?;
+    let variants = variants_in(alloc, members.as_slice(), table, place, marks)?;
     let mut changes = Vec::new(alloc);
     machine.tries(alloc, &e.state, &variants, &mut changes)?;
     Ok(Tried { variants, changes })
 }
 
-/// Tries the different variants of an execution's members, and gives a plan for each different change. `classes` is room for a table, whose
-/// entries mean nothing before and afterwards.
+/// Tries the different variants of an execution's members, and gives a plan for each different change. `classes` is room for a table by
+/// variant number, whose entries mean nothing before and afterwards.
 pub fn plan<M: Machine>(
     alloc: Global,
     machine: &mut M,
@@ -91,7 +92,7 @@ pub fn plan<M: Machine>(
     ensures keeps { Keeps M.view machine.old machine.new [] }
 {
     let place = machine.place(&e.state);
-    let tried = try_members(alloc, machine, table, e)?;
+    let tried = try_members(alloc, machine, table, e, classes)?;
     let Tried { variants, changes } = tried;
     let numbers = machine.group(alloc, &changes)?;
     write_classes(classes, &variants, numbers.as_slice())?;

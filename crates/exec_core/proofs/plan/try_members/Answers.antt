@@ -1,18 +1,14 @@
-use Rattle.std.proofs.Common.{◌≡◌, ℕ, ◌≤◌, List, length, map, arith, sym, ap, ◌∙◌, subst, true}
+use Rattle.std.proofs.Common.{◌≡◌, ℕ, List, length, map, arith, sym, ap, ◌∙◌, subst, true}
 use Rattle.std.specs.List.{All, filter}
-use Rattle.std.proofs.lemmas.List.{length-map}
 use Rattle.std.proofs.lemmas.List.Elements.{All-map}
-use Rattle.std.proofs.lemmas.List.Sums.{length-filter, count_by-le-length}
 use Rattle.code_form.specs.Variant.{Table, variant_of}
 use Rattle.member_sets.specs.Members.{is_least}
 use Rattle.traces.specs.Meanings.{total_toll}
 use Rattle.exec_core.specs.Counted.{RoseBy, RoseWithin}
 use Rattle.exec_core.proofs.CountLemmas.{tries_alone, tries_within, tries_by}
 use Rattle.exec_core.proofs.Holding.{All-from_contains}
+use Rattle.exec_core.proofs.TriedLemmas.{few_firsts}
 use Rattle.exec_core.proofs.plan.try_members.Goals as goal
-
-few_firsts : (v : ℕ → ℕ) (members : List ℕ) (p : ℕ → Rattle.std.specs.Prelude.Bool) → length (map v (filter p members)) ≤ length members
-few_firsts v members p = let a = length-map (filter p members) v in let b = length-filter p members in let c = count_by-le-length p members in omega arith
 
 known_firsts : (K : ℕ → Rattle.std.specs.Prelude.Bool) (v : ℕ → ℕ) (ms : List ℕ) → ((m : ℕ) → K (v m) ≡ true) → All (λ x. K x ≡ true) (map v ms)
 known_firsts K v ms h = All-map (λ x. K x ≡ true) v ms (All-from_contains (λ m. K (v m) ≡ true) ms (λ m c. h m))
