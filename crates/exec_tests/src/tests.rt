@@ -12,12 +12,12 @@ use std::alloc::Global;
 use std::test::Fail;
 
 /// `freeze` of a word.
-fn freeze(word: u64) -> Instr {
+pub fn freeze(word: u64) -> Instr {
     Instr::Freeze(Operand::Word(word))
 }
 
 /// A code of that many equal instructions.
-fn plain_code(alloc: Global, len: usize) -> Result<Code, OutOfMemory>
+pub fn plain_code(alloc: Global, len: usize) -> Result<Code, OutOfMemory>
     ensures { IfOk result (λ code. length code.instrs ≡ len) }
 {
     let mut instrs = Vec::with_capacity(alloc, len)?;

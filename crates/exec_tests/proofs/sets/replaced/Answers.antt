@@ -1,6 +1,6 @@
 use Rattle.std.proofs.Common.{arith}
-use Rattle.member_sets.proofs.Numbered.{few_at_first, few_more}
-use Rattle.member_sets.proofs.members.tests.replaced.Goals as goal
+use Rattle.exec_tests.proofs.Numbered.{few_at_first, few_more}
+use Rattle.exec_tests.proofs.sets.replaced.Goals as goal
 
 pub returns : goal.returns
 returns c =

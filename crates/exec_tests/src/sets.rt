@@ -1,0 +1,72 @@
+ghost use Rattle.std.specs.Prelude.{◌≡◌, ℕ, ◌≤◌, length, IfOk};
+ghost use Rattle.code_form.specs.Variant.{variant_of};
+
+use crate::tests::{freeze, plain_code};
+use am_base::OutOfMemory;
+use am_lists::Items;
+use code_form::{Code, Place, Variants};
+use member_sets::Members;
+use std::alloc::Global;
+use std::test::Fail;
+
+/// A table of five mutants, where mutants 1 and 3 have different replacements at place 0.
+fn replaced(alloc: Global, code: &Code) -> Result<Variants, OutOfMemory>
+    requires { length code.now.instrs ≡ 1 }
+    ensures { IfOk result (λ table. (m : ℕ) → variant_of table m 0 ≤ 2) }
+{
+    let mut table = Variants::new(alloc, 5)?;
+    table.add(alloc, code, 1, Place(0), freeze(8))?;
+    table.add(alloc, code, 3, Place(0), freeze(9))?;
+    Ok(table)
+}
+
+/// The parts of these five mutants by the classes of the variants 0, 1 and 2 at place 0.
+fn parts_of_five(alloc: Global, class_of: &[u32]) -> Result<Items<Members>, OutOfMemory>
+    requires { length class_of.now ≡ 3 }
+{
+    let code = plain_code(alloc, 1)?;
+    let table = replaced(alloc, &code)?;
+    let members = Members::all(alloc, 5)?;
+    members.split_by(alloc, &table, Place(0), class_of)
+}
+
+/// Whether the part at an index has exactly these members.
+fn has_part(parts: &Items<Members>, at: usize, numbers: &[u32]) -> bool {
+    match parts.get(at) {
+        Some(part) => {
+            part.len() as usize == numbers.len() && numbers.iter().all(|m| part.has(*m))
+        }
+        None => false,
+    }
+}
+
+#[test]
+fn all_members(rt: HostRuntime) -> Result<(), Fail> {
+    let members = Members::all(rt.alloc(), 5)?;
+    assert_eq!(rt;
+        members.list(rt.alloc())?.as_slice(),
+        [0, 1, 2, 3, 4].as_slice()
+    );
+    assert_eq!(rt; (members.least(), members.len()), (0, 5));
+    assert_eq!(rt; (members.has(4), members.has(5)), (true, false));
+    Ok(())
+}
+
+#[test]
+fn parts_where_both_replacements_have_one_class(rt: HostRuntime) -> Result<(), Fail> {
+    let parts = parts_of_five(rt.alloc(), &[7, 3, 3])?;
+    assert_eq!(rt; parts.len(), 2);
+    assert!(rt; has_part(&parts, 0, &[0, 2, 4]));
+    assert!(rt; has_part(&parts, 1, &[1, 3]));
+    Ok(())
+}
+
+#[test]
+fn parts_where_each_replacement_has_its_own_class(rt: HostRuntime) -> Result<(), Fail> {
+    let parts = parts_of_five(rt.alloc(), &[7, 3, 9])?;
+    assert_eq!(rt; parts.len(), 3);
+    assert!(rt; has_part(&parts, 0, &[0, 2, 4]));
+    assert!(rt; has_part(&parts, 1, &[1]));
+    assert!(rt; has_part(&parts, 2, &[3]));
+    Ok(())
+}
