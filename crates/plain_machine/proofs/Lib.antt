@@ -1,9 +1,6 @@
 pub mod Opening
 pub mod Steps
 pub mod Turns
-pub mod ExampleSound
-pub mod ExampleRows
-pub mod ExampleFits
 pub mod Numbers
 pub mod Wrapped
 pub mod StoreSteps
@@ -11,5 +8,3 @@ pub mod FoundSpots
 pub mod WriteSteps
 pub mod CountedWords
 pub mod EnterSteps
-pub mod SoundTests
-pub mod RowsSound

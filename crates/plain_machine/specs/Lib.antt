@@ -3,5 +3,3 @@ pub mod Spots
 pub mod Operands
 pub mod Plain
 pub mod Running
-pub mod Example
-pub mod Rows

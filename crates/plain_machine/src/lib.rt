@@ -13,7 +13,5 @@ mod spots;
 mod start;
 mod state;
 mod step;
-#[cfg(test)]
-mod tests;
 
 pub use run::{Alone, run_alone};

@@ -1,20 +1,13 @@
--- Tests of what a trial asks, which compute.
-use Rattle.std.specs.Prelude.{ℕ, Bool, true, false, not, ◌&&◌, nat_lt, List, [], ◌∷◌, length}
+-- Tests of what a code and a replacement have to pass, which compute.
+use Rattle.std.specs.Prelude.{◌≡◌, ℕ, true, List, is_some}
 use Rattle.code_form.specs.declared.instr.Instr.{Instr}
-use Rattle.code_form.specs.Places.{instr_at, is_phi, is_alloca, is_terminator, labels_of}
-use Rattle.code_form.specs.Fit.{with_instr}
-use Rattle.plain_machine.proofs.SoundTests.{is_sound}
-use Rattle.plain_tests.specs.Trials.{trials}
+use Rattle.code_form.specs.declared.code.Code.{Code}
+use Rattle.code_decided.proofs.SoundCode.{HasItsBytes, sound_code, fits_place}
 
-abbrev pub is_plain : Instr → Bool
-is_plain i = not (is_phi i) && (not (is_alloca i) && not (is_terminator i))
+-- whatever the opening bytes are, the code passes the test of soundness
+abbrev pub PassesAsSound : (List ℕ → Code) → Type 0
+PassesAsSound of = (memory : List ℕ) (bytes : HasItsBytes (of memory)) → is_some (sound_code (of memory) bytes) ≡ true
 
-abbrev pub has_no_labels : List ℕ → Bool
-has_no_labels [] = true
-has_no_labels (b ∷ bs) = false
-
--- an instruction that isn't a `phi`, an `alloca` or a terminator fits a place of the trials
-abbrev pub fits_by : List ℕ → ℕ → Instr → Bool
-fits_by memory at i =
-    nat_lt at (length (trials memory).instrs)
-    && (is_plain i && (is_plain (instr_at (trials memory) at) && (has_no_labels (labels_of i) && is_sound (with_instr (trials memory) at i))))
+-- and an instruction passes the test of fitting a place of it
+abbrev pub PassesAt : (List ℕ → Code) → ℕ → Instr → Type 0
+PassesAt of at i = (memory : List ℕ) (bytes : HasItsBytes (of memory)) → is_some (fits_place (of memory) bytes at i) ≡ true

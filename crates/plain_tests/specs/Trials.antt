@@ -1,5 +1,5 @@
--- The modules that the tests run, as codes.
-use Rattle.std.specs.Prelude.{◌≡◌, ℕ, ◌+◌, List, [], ◌∷◌, ◌++◌, length, map, replicate, Option, Some, None}
+-- Ten functions of one block, a function with 65 registers, and a store among the constants, as codes.
+use Rattle.std.specs.Prelude.{ℕ, ◌+◌, List, [], ◌∷◌, ◌++◌, map, replicate, Option, Some, None}
 use Rattle.am_base.specs.declared.word.Width.TheVariants.{W8, W16, W32, W64}
 use Rattle.am_base.specs.declared.word.BinOp.TheVariants.{Add, SDiv, Shl}
 use Rattle.am_base.specs.declared.word.Cast.TheVariants.{Trunc, ZExt, SExt, PtrToInt, IntToPtr}
@@ -11,26 +11,25 @@ use Rattle.code_form.specs.declared.code.TyScalar.{TyScalar}
 use Rattle.code_form.specs.declared.code.TyScalar.TheVariants.{Int, Ptr}
 use Rattle.code_form.specs.declared.code.Func.{Func}
 use Rattle.code_form.specs.declared.code.Code.{Code}
-use Rattle.code_form.specs.declared.case.Case.{Case}
 use Rattle.traces.specs.Together.{below}
+use Rattle.plain_tests.specs.Codes.{func_of, block_of, code_of}
 
--- a function of one block: its name has one letter
-abbrev pub func_of : ℕ → List TyScalar → Option TyScalar → ℕ → List TyScalar → ℕ → ℕ → Func
-func_of name params result registers types first len =
-    record { name = name ∷ []; params = params; result = result; registers = registers; types = types; blocks = record { first = first; len = len } ∷ [] }
+-- a function of one block
+abbrev pub straight : ℕ → List TyScalar → Option TyScalar → List TyScalar → ℕ → ℕ → Func
+straight name params result types first len = func_of name params result types (block_of first len ∷ [])
 
 abbrev pub funcs : List Func
 funcs =
-    func_of 103 [] (Some (Int W32)) 3 (Ptr ∷ Ptr ∷ Int W32 ∷ []) 0 5
-    ∷ func_of 100 (Int W32 ∷ []) (Some (Int W32)) 2 (Int W32 ∷ Int W32 ∷ []) 5 2
-    ∷ func_of 119 (Int W64 ∷ []) (Some (Int W64)) 4 (Int W64 ∷ Ptr ∷ Ptr ∷ Int W64 ∷ []) 7 5
-    ∷ func_of 115 (Int W32 ∷ Int W32 ∷ []) (Some (Int W32)) 3 (Int W32 ∷ Int W32 ∷ Int W32 ∷ []) 12 2
-    ∷ func_of 112 [] None 1 (Int W32 ∷ []) 14 2
-    ∷ func_of 109 [] None 1 (Ptr ∷ []) 16 2
-    ∷ func_of 99 (Int W32 ∷ []) (Some (Int W64)) 6 (Int W32 ∷ Int W32 ∷ Int W8 ∷ Int W64 ∷ Ptr ∷ Int W64 ∷ []) 18 6
-    ∷ func_of 101 [] None 1 (Int W32 ∷ []) 24 3
-    ∷ func_of 108 [] (Some (Int W32)) 4 (Ptr ∷ Ptr ∷ Int W16 ∷ Int W32 ∷ []) 27 6
-    ∷ func_of 116 (Int W32 ∷ []) (Some (Int W32)) 5 (Int W32 ∷ Ptr ∷ Ptr ∷ Ptr ∷ Int W32 ∷ []) 33 6
+    straight 103 [] (Some (Int W32)) (Ptr ∷ Ptr ∷ Int W32 ∷ []) 0 5
+    ∷ straight 100 (Int W32 ∷ []) (Some (Int W32)) (Int W32 ∷ Int W32 ∷ []) 5 2
+    ∷ straight 119 (Int W64 ∷ []) (Some (Int W64)) (Int W64 ∷ Ptr ∷ Ptr ∷ Int W64 ∷ []) 7 5
+    ∷ straight 115 (Int W32 ∷ Int W32 ∷ []) (Some (Int W32)) (Int W32 ∷ Int W32 ∷ Int W32 ∷ []) 12 2
+    ∷ straight 112 [] None (Int W32 ∷ []) 14 2
+    ∷ straight 109 [] None (Ptr ∷ []) 16 2
+    ∷ straight 99 (Int W32 ∷ []) (Some (Int W64)) (Int W32 ∷ Int W32 ∷ Int W8 ∷ Int W64 ∷ Ptr ∷ Int W64 ∷ []) 18 6
+    ∷ straight 101 [] None (Int W32 ∷ []) 24 3
+    ∷ straight 108 [] (Some (Int W32)) (Ptr ∷ Ptr ∷ Int W16 ∷ Int W32 ∷ []) 27 6
+    ∷ straight 116 (Int W32 ∷ []) (Some (Int W32)) (Int W32 ∷ Ptr ∷ Ptr ∷ Ptr ∷ Int W32 ∷ []) 33 6
     ∷ []
 
 --     define i32 @g() {
@@ -140,19 +139,7 @@ results =
 
 -- the code of all of them
 abbrev pub trials : List ℕ → Code
-trials memory = record {
-  funcs = funcs;
-  instrs = stores_zero ++ (divides ++ (crosses_a_page ++ (shifts ++ (puts ++ (takes_all ++ (converts ++ (exits ++ (loads_inside ++ goes_into_a_struct))))))));
-  results = results;
-  memory = memory;
-  const_end = 1024;
-  stack_base = 1024;
-  signs = [];
-}
-
--- a call of one of the functions
-abbrev pub case_of : ℕ → List ℕ → List ℕ → Case
-case_of function args input = record { function = function; args = args; input = input; budget = 1000000 }
+trials = code_of funcs (stores_zero ++ (divides ++ (crosses_a_page ++ (shifts ++ (puts ++ (takes_all ++ (converts ++ (exits ++ (loads_inside ++ goes_into_a_struct))))))))) results
 
 --     define i32 @q(i32 %n) {
 --       %x1 = add i32 %n, 1
@@ -162,21 +149,13 @@ case_of function args input = record { function = function; args = args; input =
 --       ret i32 %r
 --     }
 abbrev pub deep_func : Func
-deep_func = func_of 113 (Int W32 ∷ []) (Some (Int W32)) 65 (replicate 65 (Int W32)) 0 65
+deep_func = straight 113 (Int W32 ∷ []) (Some (Int W32)) (replicate 65 (Int W32)) 0 65
 
 abbrev pub adds_one : Instr
 adds_one = Bin Add W32 (Reg 0) (Word 1)
 
 abbrev pub deep : List ℕ → Code
-deep memory = record {
-  funcs = deep_func ∷ [];
-  instrs = replicate 63 adds_one ++ (Call (CallFunc 0) (Reg 0 ∷ []) ∷ Ret (Some (Reg 64)) ∷ []);
-  results = map (λ k. Some (k + 1)) (below 64) ++ (None ∷ []);
-  memory = memory;
-  const_end = 1024;
-  stack_base = 1024;
-  signs = [];
-}
+deep = code_of (deep_func ∷ []) (replicate 63 adds_one ++ (Call (CallFunc 0) (Reg 0 ∷ []) ∷ Ret (Some (Reg 64)) ∷ [])) (map (λ k. Some (k + 1)) (below 64) ++ (None ∷ []))
 
 --     @k = constant i64 0
 --     @v = global i64 0
@@ -186,7 +165,7 @@ deep memory = record {
 --     }
 abbrev pub constants : List ℕ → Code
 constants memory = record {
-  funcs = func_of 107 [] None 0 [] 0 2 ∷ [];
+  funcs = straight 107 [] None [] 0 2 ∷ [];
   instrs = Store W8 (Word 1) (Word 1031) ∷ Ret None ∷ [];
   results = None ∷ None ∷ [];
   memory = memory;
@@ -194,8 +173,3 @@ constants memory = record {
   stack_base = 1040;
   signs = [];
 }
-
--- the code is this one, with its opening bytes
-pub record IsCode (of : List ℕ → Code) (code : Code) : Type 0 where
-  pub is : code ≡ of code.memory
-  pub memory : length code.memory ≡ code.stack_base

@@ -1,163 +1,91 @@
-ghost use Rattle.code_form.specs.Fit.{AreArguments, FitsCase, FitsTable};
-ghost use Rattle.code_form.specs.Places.{function_at};
+ghost use Rattle.code_form.specs.Fit.{FitsCase, FitsPlace, FitsTable};
 ghost use Rattle.code_form.specs.Sound.{IsSound};
 ghost use Rattle.code_form.specs.Variant.{mutants_of};
-ghost use Rattle.plain_tests.specs.Fitting.{fits_by};
-ghost use Rattle.plain_tests.specs.Trials as trial;
-ghost use Rattle.plain_tests.specs.Trials.{IsCode};
-ghost use Rattle.std.specs.Prelude.{List, [], length, true, ◌∷◌, ◌<◌, ◌≤◌, ◌≡◌, IfOk, ℕ};
+ghost use Rattle.plain_tests.specs.Codes as form;
+ghost use Rattle.plain_tests.specs.Codes.{case_of, func_of};
+ghost use Rattle.std.specs.Prelude.{◌<◌, ◌≡◌, IfOk, length};
 
-use am_base::{BinOp, Cast, Ending, OutOfMemory, Trap, Width};
+mod example;
+mod moves;
+mod rows;
+mod trials;
+
+use am_base::{Ending, OutOfMemory, Width};
 use am_lists::Items;
-use code_form::{Block, Callee, Case, Code, Func, Instr, Operand, Place, TyScalar, Variants};
+use code_form::{Block, Case, Code, Func, Instr, Operand, Place, TyScalar, Variants};
 use plain_machine::{Alone, run_alone};
 use std::alloc::Global;
 use std::process::Abort;
-use std::test::Fail;
 
-const W: Width = Width::W32;
+/// The width of most words here.
+pub const W: Width = Width::W32;
 
-const INT: TyScalar = TyScalar::Int(Width::W32);
+/// `i32`.
+pub const INT: TyScalar = TyScalar::Int(Width::W32);
 
-const LONG: TyScalar = TyScalar::Int(Width::W64);
+/// `i1`.
+pub const BIT: TyScalar = TyScalar::Int(Width::W1);
 
-const PTR: TyScalar = TyScalar::Ptr;
+/// `i8`.
+pub const BYTE: TyScalar = TyScalar::Int(Width::W8);
 
-fn reg(r: u32) -> Operand
+/// `i64`.
+pub const LONG: TyScalar = TyScalar::Int(Width::W64);
+
+/// `ptr`.
+pub const PTR: TyScalar = TyScalar::Ptr;
+
+/// A register.
+pub fn reg(r: u32) -> Operand
     ensures { result ≡ Operand.Reg r }
 {
     Operand::Reg(r)
 }
 
-fn word(n: u64) -> Operand
+/// A word.
+pub fn word(n: u64) -> Operand
     ensures { result ≡ Operand.Word n }
 {
     Operand::Word(n)
 }
 
-// The codes.
+/// A block with this first place and so many instructions.
+pub fn block(first: u32, len: u32) -> Block
+    ensures { result ≡ form.block_of first len }
+{
+    Block { first, len }
+}
 
-/// A function of one block, which has this first place and so many instructions.
-fn func(
+/// A function with a name of one letter.
+pub fn func(
     alloc: Global,
     name: u8,
     params: &[TyScalar],
     result_type: Option<TyScalar>,
     types: &[TyScalar],
-    first: u32,
-    len: u32,
+    blocks: &[Block],
 ) -> Result<Func, OutOfMemory>
     requires { length types.now < 65536 }
-    ensures { IfOk result (λ f. f ≡ trial.func_of name params.now result_type (length types.now) types.now first len) }
+    ensures { IfOk result (λ f. f ≡ func_of name params.now result_type types.now blocks.now) }
 {
-    let blocks = [Block { first, len }];
     Ok(Func {
         name: Items::from_slice(alloc, &[name])?,
         params: Items::from_slice(alloc, params)?,
         result: result_type,
         registers: types.len() as u32,
         types: Items::from_slice(alloc, types)?,
-        blocks: Items::from_slice(alloc, &blocks)?,
+        blocks: Items::from_slice(alloc, blocks)?,
     })
 }
 
-fn funcs(alloc: Global) -> Result<Items<Func>, OutOfMemory>
-    ensures { IfOk result (λ fs. fs ≡ trial.funcs) }
-{
-    let byte = TyScalar::Int(Width::W8);
-    let mut all = Items::new(alloc);
-    all.push(func(alloc, b'g', &[], Some(INT), &[PTR, PTR, INT], 0, 5)?)?;
-    all.push(func(alloc, b'd', &[INT], Some(INT), &[INT, INT], 5, 2)?)?;
-    all.push(func(
-        alloc,
-        b'w',
-        &[LONG],
-        Some(LONG),
-        &[LONG, PTR, PTR, LONG],
-        7,
-        5,
-    )?)?;
-    all.push(func(alloc, b's', &[INT, INT], Some(INT), &[INT, INT, INT], 12, 2)?)?;
-    all.push(func(alloc, b'p', &[], None, &[INT], 14, 2)?)?;
-    all.push(func(alloc, b'm', &[], None, &[PTR], 16, 2)?)?;
-    let types = [INT, INT, byte, LONG, PTR, LONG];
-    all.push(func(alloc, b'c', &[INT], Some(LONG), &types, 18, 6)?)?;
-    all.push(func(alloc, b'e', &[], None, &[INT], 24, 3)?)?;
-    let half = TyScalar::Int(Width::W16);
-    let types = [PTR, PTR, half, INT];
-    all.push(func(alloc, b'l', &[], Some(INT), &types, 27, 6)?)?;
-    let types = [INT, PTR, PTR, PTR, INT];
-    all.push(func(alloc, b't', &[INT], Some(INT), &types, 33, 6)?)?;
-    Ok(all)
-}
-
-/// A call of `putchar` with a byte.
-fn put(alloc: Global, byte: u64) -> Result<Instr, OutOfMemory>
-    ensures { IfOk result (λ i. i ≡ Instr.Call Callee.PutChar (Operand.Word byte ∷ [])) }
-{
-    let args = Items::from_slice(alloc, &[word(byte)])?;
-    Ok(Instr::Call(Callee::PutChar, args))
-}
-
-fn instrs(alloc: Global) -> Result<Items<Instr>, OutOfMemory>
-    ensures { IfOk result (λ is. is ≡ (trial.trials []).instrs) }
-{
-    let put = put(alloc, 65)?;
-    let get = Instr::Call(Callee::GetChar, Items::new(alloc));
-    let scaled = Items::from_slice(alloc, &[(4, W, reg(0))])?;
-    let into = Instr::Get(reg(1), 16, scaled);
-    let exit = Instr::Call(Callee::Exit, Items::from_slice(alloc, &[reg(0)])?);
-    Ok(Items::from_vec(vec![in alloc;
-        Instr::Alloca(4, 4, word(1)),
-        Instr::Alloca(4, 4, word(1)),
-        Instr::Store(W, word(0), reg(0)),
-        Instr::Load(W, reg(0)),
-        Instr::Ret(Some(reg(2))),
-        Instr::Bin(BinOp::SDiv, W, reg(0), word(2)),
-        Instr::Ret(Some(reg(1))),
-        Instr::Alloca(1020, 1, word(1)),
-        Instr::Alloca(16, 1, word(1)),
-        Instr::Store(Width::W64, reg(0), reg(2)),
-        Instr::Load(Width::W64, reg(2)),
-        Instr::Ret(Some(reg(3))),
-        Instr::Bin(BinOp::Shl, W, reg(0), reg(1)),
-        Instr::Ret(Some(reg(2))),
-        put,
-        Instr::Ret(None),
-        Instr::Alloca(1_048_576, 1, word(1)),
-        Instr::Ret(None),
-        Instr::Freeze(reg(0)),
-        Instr::Cast(Cast::Trunc, W, Width::W8, reg(1)),
-        Instr::Cast(Cast::SExt, Width::W8, Width::W64, reg(2)),
-        Instr::Cast(Cast::IntToPtr, Width::W64, Width::W64, reg(3)),
-        Instr::Cast(Cast::PtrToInt, Width::W64, Width::W64, reg(4)),
-        Instr::Ret(Some(reg(5))),
-        get,
-        exit,
-        Instr::Unreachable,
-        Instr::Alloca(8, 8, word(1)),
-        Instr::Store(Width::W64, word(578437695752307201), reg(0)),
-        Instr::Get(reg(0), 1, Items::new(alloc)),
-        Instr::Load(Width::W16, reg(1)),
-        Instr::Cast(Cast::ZExt, Width::W16, W, reg(2)),
-        Instr::Ret(Some(reg(3))),
-        Instr::Alloca(12, 4, word(1)),
-        into,
-        Instr::Store(W, word(77), reg(2)),
-        Instr::Get(reg(1), 8, Items::new(alloc)),
-        Instr::Load(W, reg(3)),
-        Instr::Ret(Some(reg(4))),
-    ]?))
-}
-
 /// A code without globals.
-fn code_of(
+pub fn code_of(
     alloc: Global,
     funcs: Items<Func>,
     instrs: Items<Instr>,
     results: Items<Option<u32>>,
 ) -> Result<Code, OutOfMemory>
-    ensures is { IfOk result (λ c. c ≡ record { funcs = funcs; instrs = instrs; results = results; memory = c.memory; const_end = 1024; stack_base = 1024; signs = [] }) }
+    ensures is { IfOk result (λ c. c ≡ form.code_of funcs instrs results c.memory) }
     ensures memory { IfOk result (λ c. length c.memory ≡ c.stack_base) }
 {
     Ok(Code {
@@ -171,61 +99,6 @@ fn code_of(
     })
 }
 
-fn results(alloc: Global) -> Result<Items<Option<u32>>, OutOfMemory>
-    ensures { IfOk result (λ rs. rs ≡ trial.results) }
-{
-    let all = [
-        Some(0),
-        Some(1),
-        None,
-        Some(2),
-        None,
-        Some(1),
-        None,
-        Some(1),
-        Some(2),
-        None,
-        Some(3),
-        None,
-        Some(2),
-        None,
-        Some(0),
-        None,
-        Some(0),
-        None,
-        Some(1),
-        Some(2),
-        Some(3),
-        Some(4),
-        Some(5),
-        None,
-        Some(0),
-        None,
-        None,
-        Some(0),
-        None,
-        Some(1),
-        Some(2),
-        Some(3),
-        None,
-        Some(1),
-        Some(2),
-        None,
-        Some(3),
-        Some(4),
-        None,
-    ];
-    Ok(Items::from_slice(alloc, &all)?)
-}
-
-fn trials(alloc: Global) -> Result<Code, OutOfMemory>
-    ensures { IfOk result (IsCode trial.trials) }
-{
-    code_of(alloc, funcs(alloc)?, instrs(alloc)?, results(alloc)?)
-}
-
-// The runs.
-
 fn run(
     alloc: Global,
     code: &Code,
@@ -234,327 +107,71 @@ fn run(
     function: u32,
     args: &[u64],
     input: &[u8],
+    budget: u64,
 ) -> Result<Alone, OutOfMemory>
     requires sound { IsSound code.now }
     requires no_ports { length code.now.signs ≡ 0 }
     requires table { FitsTable code.now variants.now }
     requires mutant { m < mutants_of variants.now }
-    requires case { FitsCase code.now (trial.case_of function args.now input.now) }
+    requires case { FitsCase code.now (case_of function args.now input.now budget) }
 {
     let case = Case {
         function,
         args: Items::from_slice(alloc, args)?,
         input: Items::from_slice(alloc, input)?,
-        budget: 1_000_000,
+        budget,
     };
     run_alone(alloc, code, variants, m, &case)
 }
 
-/// The run of a function of the trials as it stands.
-fn original(alloc: Global, function: u32, args: &[u64], input: &[u8]) -> Result<Alone, OutOfMemory>
-    requires defined { function < 10 }
-    requires args { AreArguments (function_at (trial.trials []) function).params args.now }
-    requires input { length input.now ≤ 65536 }
-{
-    let code = trials(alloc)?;
-    let variants = Variants::new(alloc, 1)?;
-    run(alloc, &code, &variants, 0, function, args, input)
-}
-
-/// The run of a function of the trials with an instruction in the place of another.
-fn mutated(
+/// The run of a function of a code as it stands.
+pub fn run_original(
     alloc: Global,
-    place: u32,
-    with: Instr,
+    code: &Code,
     function: u32,
     args: &[u64],
     input: &[u8],
+    budget: u64,
 ) -> Result<Alone, OutOfMemory>
-    requires defined { function < 10 }
-    requires args { AreArguments (function_at (trial.trials []) function).params args.now }
-    requires input { length input.now ≤ 65536 }
-    requires fits { (memory : List ℕ) → fits_by memory place with ≡ true }
+    requires sound { IsSound code.now }
+    requires no_ports { length code.now.signs ≡ 0 }
+    requires case { FitsCase code.now (case_of function args.now input.now budget) }
 {
-    let code = trials(alloc)?;
+    let variants = Variants::new(alloc, 1)?;
+    run(alloc, code, &variants, 0, function, args, input, budget)
+}
+
+/// The run of one of two mutants, of which mutant 1 has an instruction in the place of another.
+pub fn run_replaced(
+    alloc: Global,
+    code: &Code,
+    place: u32,
+    with: Instr,
+    m: u32,
+    function: u32,
+    args: &[u64],
+    input: &[u8],
+    budget: u64,
+) -> Result<Alone, OutOfMemory>
+    requires sound { IsSound code.now }
+    requires no_ports { length code.now.signs ≡ 0 }
+    requires fits { FitsPlace code.now place with }
+    requires mutant { m < 2 }
+    requires case { FitsCase code.now (case_of function args.now input.now budget) }
+{
     let mut variants = Variants::new(alloc, 2)?;
-    variants.add(alloc, &code, 1, Place(place), with)?;
-    run(alloc, &code, &variants, 1, function, args, input)
+    variants.add(alloc, code, 1, Place(place), with)?;
+    run(alloc, code, &variants, m, function, args, input, budget)
 }
 
 /// Asserts how a run ended, its length and its output.
-fn expect(rt: &impl Abort, alone: Alone, ending: Ending, length: u64, output: &[u8]) {
+pub fn expect(rt: &impl Abort, alone: Alone, ending: Ending, length: u64, output: &[u8]) {
     assert_eq!(rt; alone.outcome.ending, ending);
     assert_eq!(rt; alone.length, length);
     assert_eq!(rt; alone.outcome.output.as_slice(), output);
 }
 
 /// Asserts that a run put out nothing and returned this word.
-fn expect_word(rt: &impl Abort, alone: Alone, word: u64, length: u64) {
+pub fn expect_word(rt: &impl Abort, alone: Alone, word: u64, length: u64) {
     expect(rt, alone, Ending::Return(Some(word)), length, &[]);
-}
-
-#[test]
-fn stores_of_zero(rt: HostRuntime) -> Result<(), Fail> {
-    let alloc = rt.alloc();
-    expect_word(&rt, original(alloc, 0, &[], &[])?, 0, 5);
-    let with = Instr::Store(W, word(0), reg(1));
-    expect_word(&rt, mutated(alloc, 2, with, 0, &[], &[])?, 0, 5);
-    Ok(())
-}
-
-#[test]
-fn divisions(rt: HostRuntime) -> Result<(), Fail> {
-    let alloc = rt.alloc();
-    let least = [0x8000_0000];
-    expect_word(&rt, original(alloc, 1, &least, &[])?, 0xc000_0000, 2);
-    let with = Instr::Bin(BinOp::SDiv, W, reg(0), word(0));
-    let zero = Ending::Trap(Trap::DivideByZero);
-    expect(&rt, mutated(alloc, 5, with, 1, &least, &[])?, zero, 1, &[]);
-    let with = Instr::Bin(BinOp::SDiv, W, reg(0), word(0xffff_ffff));
-    let over = Ending::Trap(Trap::DivideOverflow);
-    expect(&rt, mutated(alloc, 5, with, 1, &least, &[])?, over, 1, &[]);
-    Ok(())
-}
-
-#[test]
-fn stores_across_pages(rt: HostRuntime) -> Result<(), Fail> {
-    let alloc = rt.alloc();
-    let ones = [0xffff_ffff_ffff_ffff];
-    expect_word(
-        &rt,
-        original(alloc, 2, &ones, &[])?,
-        0xffff_ffff_ffff_ffff,
-        5,
-    );
-    let with = Instr::Store(Width::W64, word(0), reg(2));
-    expect_word(&rt, mutated(alloc, 9, with, 2, &ones, &[])?, 0, 5);
-    Ok(())
-}
-
-/// Asserts what the three shifts give, the left one first.
-fn expect_shifts(
-    rt: &impl Abort,
-    alloc: Global,
-    a: u64,
-    n: u64,
-    words: (u64, u64, u64),
-) -> Result<(), Fail>
-    requires value { a < 4294967296 }
-    requires count { n < 4294967296 }
-{
-    expect_word(rt, original(alloc, 3, &[a, n], &[])?, words.0, 2);
-    let with = Instr::Bin(BinOp::LShr, W, reg(0), reg(1));
-    expect_word(rt, mutated(alloc, 12, with, 3, &[a, n], &[])?, words.1, 2);
-    let with = Instr::Bin(BinOp::AShr, W, reg(0), reg(1));
-    expect_word(rt, mutated(alloc, 12, with, 3, &[a, n], &[])?, words.2, 2);
-    Ok(())
-}
-
-#[test]
-fn shifts(rt: HostRuntime) -> Result<(), Fail> {
-    let alloc = rt.alloc();
-    let ones = 0xffff_ffff;
-    expect_shifts(&rt, alloc, ones, 31, (0x8000_0000, 1, ones))?;
-    expect_shifts(&rt, alloc, ones, 32, (0, 0, ones))?;
-    expect_shifts(&rt, alloc, ones, 0x8000_0000, (0, 0, ones))?;
-    Ok(())
-}
-
-#[test]
-fn output(rt: HostRuntime) -> Result<(), Fail> {
-    let alloc = rt.alloc();
-    let done = Ending::Return(None);
-    expect(&rt, original(alloc, 4, &[], &[])?, done, 2, &[65]);
-    let with = put(alloc, 66)?;
-    expect(&rt, mutated(alloc, 14, with, 4, &[], &[])?, done, 2, &[66]);
-    Ok(())
-}
-
-#[test]
-fn takes_and_converts(rt: HostRuntime) -> Result<(), Fail> {
-    let alloc = rt.alloc();
-    let full = Ending::Trap(Trap::MemoryFull);
-    expect(&rt, original(alloc, 5, &[], &[])?, full, 1, &[]);
-    let low = 0xffff_ffff_ffff_ff80;
-    expect_word(&rt, original(alloc, 6, &[0x180], &[])?, low, 6);
-    Ok(())
-}
-
-#[test]
-fn ends_from_outside(rt: HostRuntime) -> Result<(), Fail> {
-    let alloc = rt.alloc();
-    // a byte of the input, and -1 where there is none
-    let byte = Ending::Exit(7);
-    expect(&rt, original(alloc, 7, &[], &[7])?, byte, 2, &[]);
-    let none = Ending::Exit(0xffff_ffff);
-    expect(&rt, original(alloc, 7, &[], &[])?, none, 2, &[]);
-    let with = Instr::Call(Callee::Abort, Items::new(alloc));
-    let abort = Ending::Trap(Trap::Abort);
-    expect(&rt, mutated(alloc, 25, with, 7, &[], &[])?, abort, 2, &[]);
-    Ok(())
-}
-
-#[test]
-fn reads_what_is_not_set(rt: HostRuntime) -> Result<(), Fail> {
-    let alloc = rt.alloc();
-    let with = Instr::Bin(BinOp::Shl, W, reg(2), reg(1));
-    let unset = Ending::Trap(Trap::UnsetRegister);
-    expect(
-        &rt,
-        mutated(alloc, 12, with, 3, &[1, 1], &[])?,
-        unset,
-        1,
-        &[],
-    );
-    Ok(())
-}
-
-/// The lowest byte stands first: stores of 16, 32 and 64 bits, and loads of 16 and 32. A store to a
-/// register that isn't set yet traps.
-#[test]
-fn bytes_of_words(rt: HostRuntime) -> Result<(), Fail> {
-    let alloc = rt.alloc();
-    expect_word(&rt, original(alloc, 8, &[], &[])?, 0x0302, 6);
-    let with = Instr::Store(W, word(0xddcc_bbaa), reg(0));
-    expect_word(&rt, mutated(alloc, 28, with, 8, &[], &[])?, 0xccbb, 6);
-    let with = Instr::Store(Width::W16, word(0xbbaa), reg(0));
-    expect_word(&rt, mutated(alloc, 28, with, 8, &[], &[])?, 0x00bb, 6);
-    let with = Instr::Store(Width::W8, word(0xaa), reg(1));
-    let unset = Ending::Trap(Trap::UnsetRegister);
-    expect(&rt, mutated(alloc, 28, with, 8, &[], &[])?, unset, 2, &[]);
-    let with = Instr::Store(Width::W64, word(0x0807_0605_0403_0201), reg(0));
-    expect_word(&rt, mutated(alloc, 2, with, 0, &[], &[])?, 0x0403_0201, 5);
-    Ok(())
-}
-
-#[test]
-fn paths_into_structs(rt: HostRuntime) -> Result<(), Fail> {
-    let alloc = rt.alloc();
-    // two elements back from the second struct is the last element of the first
-    expect_word(&rt, original(alloc, 9, &[0xffff_fffe], &[])?, 77, 6);
-    // three back is the first one, which is not looked at
-    expect_word(&rt, original(alloc, 9, &[0xffff_fffd], &[])?, 0, 6);
-    // one back is past the first struct
-    let out = Ending::Trap(Trap::AddressRange);
-    expect(&rt, original(alloc, 9, &[0xffff_ffff], &[])?, out, 3, &[]);
-    Ok(())
-}
-
-#[test]
-fn other_operations(rt: HostRuntime) -> Result<(), Fail> {
-    let alloc = rt.alloc();
-    let least = [0x8000_0000];
-    let with = Instr::Bin(BinOp::Mul, W, reg(0), word(3));
-    expect_word(
-        &rt,
-        mutated(alloc, 5, with, 1, &least, &[])?,
-        0x8000_0000,
-        2,
-    );
-    let with = Instr::Bin(BinOp::UDiv, W, reg(0), word(2));
-    expect_word(
-        &rt,
-        mutated(alloc, 5, with, 1, &least, &[])?,
-        0x4000_0000,
-        2,
-    );
-    let with = Instr::Bin(BinOp::SRem, W, reg(0), word(3));
-    expect_word(
-        &rt,
-        mutated(alloc, 5, with, 1, &least, &[])?,
-        0xffff_fffe,
-        2,
-    );
-    let with = Instr::Bin(BinOp::SRem, W, reg(0), word(0xffff_ffff));
-    let over = Ending::Trap(Trap::DivideOverflow);
-    expect(&rt, mutated(alloc, 5, with, 1, &least, &[])?, over, 1, &[]);
-    let with = Instr::Bin(BinOp::URem, W, reg(0), word(3));
-    expect_word(&rt, mutated(alloc, 5, with, 1, &least, &[])?, 2, 2);
-    let with = Instr::Bin(BinOp::Xor, W, reg(0), word(0xffff_ffff));
-    expect_word(
-        &rt,
-        mutated(alloc, 5, with, 1, &least, &[])?,
-        0x7fff_ffff,
-        2,
-    );
-    Ok(())
-}
-
-// A store among the constants.
-
-fn constants(alloc: Global) -> Result<Code, OutOfMemory>
-    ensures { IfOk result (IsCode trial.constants) }
-{
-    let f = func(alloc, b'k', &[], None, &[], 0, 2)?;
-    let store = Instr::Store(Width::W8, word(1), word(1031));
-    Ok(Code {
-        funcs: Items::from_vec(vec![in alloc; f]?),
-        instrs: Items::from_vec(vec![in alloc; store, Instr::Ret(None)]?),
-        results: Items::from_slice(alloc, &[None, None])?,
-        memory: Items::from_vec(vec![in alloc; 0; 1040]?),
-        const_end: 1032,
-        stack_base: 1040,
-        signs: Items::new(alloc),
-    })
-}
-
-fn run_constants(alloc: Global) -> Result<Alone, OutOfMemory> {
-    let code = constants(alloc)?;
-    let variants = Variants::new(alloc, 1)?;
-    run(alloc, &code, &variants, 0, 0, &[], &[])
-}
-
-#[test]
-fn stores_among_constants(rt: HostRuntime) -> Result<(), Fail> {
-    let alone = run_constants(rt.alloc())?;
-    expect(&rt, alone, Ending::Trap(Trap::ConstantWrite), 1, &[]);
-    Ok(())
-}
-
-// Frames of 65 registers each.
-
-fn deep_instrs(alloc: Global) -> Result<Items<Instr>, OutOfMemory>
-    ensures { IfOk result (λ is. is ≡ (trial.deep []).instrs) }
-{
-    let mut all = Items::new(alloc);
-    for k in 0..63u32 {
-        all.push(Instr::Bin(BinOp::Add, W, reg(0), word(1)))?;
-    }
-    let args = Items::from_slice(alloc, &[reg(0)])?;
-    all.push(Instr::Call(Callee::Func(0), args))?;
-    all.push(Instr::Ret(Some(reg(64))))?;
-    Ok(all)
-}
-
-fn deep_results(alloc: Global) -> Result<Items<Option<u32>>, OutOfMemory>
-    ensures { IfOk result (λ rs. rs ≡ (trial.deep []).results) }
-{
-    let mut all = Items::new(alloc);
-    for k in 0..64 {
-        all.push(Some(k + 1))?;
-    }
-    all.push(None)?;
-    Ok(all)
-}
-
-fn deep(alloc: Global) -> Result<Code, OutOfMemory>
-    ensures { IfOk result (IsCode trial.deep) }
-{
-    let f = func(alloc, b'q', &[INT], Some(INT), &[INT; 65], 0, 65)?;
-    let funcs = Items::from_vec(vec![in alloc; f]?);
-    code_of(alloc, funcs, deep_instrs(alloc)?, deep_results(alloc)?)
-}
-
-fn run_deep(alloc: Global) -> Result<Alone, OutOfMemory> {
-    let code = deep(alloc)?;
-    let variants = Variants::new(alloc, 1)?;
-    run(alloc, &code, &variants, 0, 0, &[1], &[])
-}
-
-/// 504 frames of 65 registers fit into 32,768, and each makes 64 changes.
-#[test]
-fn fills_the_registers(rt: HostRuntime) -> Result<(), Fail> {
-    let alone = run_deep(rt.alloc())?;
-    expect(&rt, alone, Ending::Trap(Trap::RegistersFull), 32_256, &[]);
-    Ok(())
 }

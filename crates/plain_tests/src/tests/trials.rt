@@ -1,0 +1,454 @@
+//! Ten functions of one block as they stand and with replacements, frames of many registers, and a store among the constants.
+ghost use Rattle.code_form.specs.Fit.{AreArguments};
+ghost use Rattle.code_form.specs.Places.{function_at};
+ghost use Rattle.code_form.specs.declared.instr.Operand.TheVariants.{Word};
+ghost use Rattle.plain_tests.specs.Codes.{IsCode};
+ghost use Rattle.plain_tests.specs.Fitting.{PassesAt};
+ghost use Rattle.plain_tests.specs.Trials as trial;
+ghost use Rattle.std.specs.Prelude.{[], length, ◌∷◌, ◌<◌, ◌≤◌, ◌≡◌, ◌++◌, IfOk};
+
+use crate::tests::{
+    BYTE, INT, LONG, PTR, W, block, code_of, expect, expect_word, func, reg, run_original,
+    run_replaced, word,
+};
+use am_base::{BinOp, Cast, Ending, OutOfMemory, Trap, Width};
+use am_lists::Items;
+use code_form::{Callee, Code, Func, Instr, TyScalar};
+use plain_machine::Alone;
+use std::alloc::Global;
+use std::process::Abort;
+use std::test::Fail;
+
+/// A function of one block, which has this first place and so many instructions.
+fn straight(
+    alloc: Global,
+    name: u8,
+    params: &[TyScalar],
+    result_type: Option<TyScalar>,
+    types: &[TyScalar],
+    first: u32,
+    len: u32,
+) -> Result<Func, OutOfMemory>
+    requires { length types.now < 65536 }
+    ensures { IfOk result (λ f. f ≡ trial.straight name params.now result_type types.now first len) }
+{
+    func(
+        alloc,
+        name,
+        params,
+        result_type,
+        types,
+        &[block(first, len)],
+    )
+}
+
+fn funcs(alloc: Global) -> Result<Items<Func>, OutOfMemory>
+    ensures { IfOk result (λ fs. fs ≡ trial.funcs) }
+{
+    let mut all = Items::new(alloc);
+    all.push(straight(alloc, b'g', &[], Some(INT), &[PTR, PTR, INT], 0, 5)?)?;
+    all.push(straight(alloc, b'd', &[INT], Some(INT), &[INT, INT], 5, 2)?)?;
+    all.push(straight(
+        alloc,
+        b'w',
+        &[LONG],
+        Some(LONG),
+        &[LONG, PTR, PTR, LONG],
+        7,
+        5,
+    )?)?;
+    all.push(straight(alloc, b's', &[INT, INT], Some(INT), &[INT, INT, INT], 12, 2)?)?;
+    all.push(straight(alloc, b'p', &[], None, &[INT], 14, 2)?)?;
+    all.push(straight(alloc, b'm', &[], None, &[PTR], 16, 2)?)?;
+    let types = [INT, INT, BYTE, LONG, PTR, LONG];
+    all.push(straight(alloc, b'c', &[INT], Some(LONG), &types, 18, 6)?)?;
+    all.push(straight(alloc, b'e', &[], None, &[INT], 24, 3)?)?;
+    let half = TyScalar::Int(Width::W16);
+    let types = [PTR, PTR, half, INT];
+    all.push(straight(alloc, b'l', &[], Some(INT), &types, 27, 6)?)?;
+    let types = [INT, PTR, PTR, PTR, INT];
+    all.push(straight(alloc, b't', &[INT], Some(INT), &types, 33, 6)?)?;
+    Ok(all)
+}
+
+/// A call of `putchar` with a byte.
+fn put(alloc: Global, byte: u64) -> Result<Instr, OutOfMemory>
+    ensures { IfOk result (λ i. i ≡ Instr.Call Callee.PutChar (Word byte ∷ [])) }
+{
+    let args = Items::from_slice(alloc, &[word(byte)])?;
+    Ok(Instr::Call(Callee::PutChar, args))
+}
+
+fn first_instrs(alloc: Global) -> Result<Items<Instr>, OutOfMemory>
+    ensures { IfOk result (λ is. is ≡ trial.stores_zero ++ (trial.divides ++ (trial.crosses_a_page ++ (trial.shifts ++ trial.puts)))) }
+{
+    let put = put(alloc, 65)?;
+    Ok(Items::from_vec(vec![in alloc;
+        Instr::Alloca(4, 4, word(1)),
+        Instr::Alloca(4, 4, word(1)),
+        Instr::Store(W, word(0), reg(0)),
+        Instr::Load(W, reg(0)),
+        Instr::Ret(Some(reg(2))),
+        Instr::Bin(BinOp::SDiv, W, reg(0), word(2)),
+        Instr::Ret(Some(reg(1))),
+        Instr::Alloca(1020, 1, word(1)),
+        Instr::Alloca(16, 1, word(1)),
+        Instr::Store(Width::W64, reg(0), reg(2)),
+        Instr::Load(Width::W64, reg(2)),
+        Instr::Ret(Some(reg(3))),
+        Instr::Bin(BinOp::Shl, W, reg(0), reg(1)),
+        Instr::Ret(Some(reg(2))),
+        put,
+        Instr::Ret(None),
+    ]?))
+}
+
+fn later_instrs(alloc: Global) -> Result<Items<Instr>, OutOfMemory>
+    ensures { IfOk result (λ is. is ≡ trial.takes_all ++ (trial.converts ++ (trial.exits ++ (trial.loads_inside ++ trial.goes_into_a_struct)))) }
+{
+    let get = Instr::Call(Callee::GetChar, Items::new(alloc));
+    let scaled = Items::from_slice(alloc, &[(4, W, reg(0))])?;
+    let into = Instr::Get(reg(1), 16, scaled);
+    let exit = Instr::Call(Callee::Exit, Items::from_slice(alloc, &[reg(0)])?);
+    Ok(Items::from_vec(vec![in alloc;
+        Instr::Alloca(1_048_576, 1, word(1)),
+        Instr::Ret(None),
+        Instr::Freeze(reg(0)),
+        Instr::Cast(Cast::Trunc, W, Width::W8, reg(1)),
+        Instr::Cast(Cast::SExt, Width::W8, Width::W64, reg(2)),
+        Instr::Cast(Cast::IntToPtr, Width::W64, Width::W64, reg(3)),
+        Instr::Cast(Cast::PtrToInt, Width::W64, Width::W64, reg(4)),
+        Instr::Ret(Some(reg(5))),
+        get,
+        exit,
+        Instr::Unreachable,
+        Instr::Alloca(8, 8, word(1)),
+        Instr::Store(Width::W64, word(578437695752307201), reg(0)),
+        Instr::Get(reg(0), 1, Items::new(alloc)),
+        Instr::Load(Width::W16, reg(1)),
+        Instr::Cast(Cast::ZExt, Width::W16, W, reg(2)),
+        Instr::Ret(Some(reg(3))),
+        Instr::Alloca(12, 4, word(1)),
+        into,
+        Instr::Store(W, word(77), reg(2)),
+        Instr::Get(reg(1), 8, Items::new(alloc)),
+        Instr::Load(W, reg(3)),
+        Instr::Ret(Some(reg(4))),
+    ]?))
+}
+
+fn results(alloc: Global) -> Result<Items<Option<u32>>, OutOfMemory>
+    ensures { IfOk result (λ rs. rs ≡ trial.results) }
+{
+    let mut all = Items::from_slice(alloc, &[Some(0), Some(1), None, Some(2), None])?;
+    all.extend(&[Some(1), None])?;
+    all.extend(&[Some(1), Some(2), None, Some(3), None])?;
+    all.extend(&[Some(2), None, Some(0), None, Some(0), None])?;
+    all.extend(&[Some(1), Some(2), Some(3), Some(4), Some(5), None])?;
+    all.extend(&[Some(0), None, None])?;
+    all.extend(&[Some(0), None, Some(1), Some(2), Some(3), None])?;
+    all.extend(&[Some(1), Some(2), None, Some(3), Some(4), None])?;
+    Ok(all)
+}
+
+fn trials(alloc: Global) -> Result<Code, OutOfMemory>
+    ensures { IfOk result (IsCode trial.trials) }
+{
+    let mut instrs = first_instrs(alloc)?;
+    instrs.append(later_instrs(alloc)?)?;
+    code_of(alloc, funcs(alloc)?, instrs, results(alloc)?)
+}
+
+/// The run of a function of the trials as it stands.
+fn original(alloc: Global, function: u32, args: &[u64], input: &[u8]) -> Result<Alone, OutOfMemory>
+    requires defined { function < 10 }
+    requires args { AreArguments (function_at (trial.trials []) function).params args.now }
+    requires input { length input.now ≤ 65536 }
+{
+    let code = trials(alloc)?;
+    run_original(alloc, &code, function, args, input, 1_000_000)
+}
+
+/// The run of a function of the trials with an instruction in the place of another.
+fn mutated(
+    alloc: Global,
+    place: u32,
+    with: Instr,
+    function: u32,
+    args: &[u64],
+    input: &[u8],
+) -> Result<Alone, OutOfMemory>
+    requires defined { function < 10 }
+    requires args { AreArguments (function_at (trial.trials []) function).params args.now }
+    requires input { length input.now ≤ 65536 }
+    requires fits { PassesAt trial.trials place with }
+{
+    let code = trials(alloc)?;
+    run_replaced(
+        alloc, &code, place, with, 1, function, args, input, 1_000_000,
+    )
+}
+
+#[test]
+fn stores_of_zero(rt: HostRuntime) -> Result<(), Fail> {
+    let alloc = rt.alloc();
+    expect_word(&rt, original(alloc, 0, &[], &[])?, 0, 5);
+    let with = Instr::Store(W, word(0), reg(1));
+    expect_word(&rt, mutated(alloc, 2, with, 0, &[], &[])?, 0, 5);
+    Ok(())
+}
+
+#[test]
+fn divisions(rt: HostRuntime) -> Result<(), Fail> {
+    let alloc = rt.alloc();
+    let least = [0x8000_0000];
+    expect_word(&rt, original(alloc, 1, &least, &[])?, 0xc000_0000, 2);
+    let with = Instr::Bin(BinOp::SDiv, W, reg(0), word(0));
+    let zero = Ending::Trap(Trap::DivideByZero);
+    expect(&rt, mutated(alloc, 5, with, 1, &least, &[])?, zero, 1, &[]);
+    let with = Instr::Bin(BinOp::SDiv, W, reg(0), word(0xffff_ffff));
+    let over = Ending::Trap(Trap::DivideOverflow);
+    expect(&rt, mutated(alloc, 5, with, 1, &least, &[])?, over, 1, &[]);
+    Ok(())
+}
+
+#[test]
+fn stores_across_pages(rt: HostRuntime) -> Result<(), Fail> {
+    let alloc = rt.alloc();
+    let ones = [0xffff_ffff_ffff_ffff];
+    expect_word(
+        &rt,
+        original(alloc, 2, &ones, &[])?,
+        0xffff_ffff_ffff_ffff,
+        5,
+    );
+    let with = Instr::Store(Width::W64, word(0), reg(2));
+    expect_word(&rt, mutated(alloc, 9, with, 2, &ones, &[])?, 0, 5);
+    Ok(())
+}
+
+/// Asserts what the three shifts give, the left one first.
+fn expect_shifts(
+    rt: &impl Abort,
+    alloc: Global,
+    a: u64,
+    n: u64,
+    words: (u64, u64, u64),
+) -> Result<(), Fail>
+    requires value { a < 4294967296 }
+    requires count { n < 4294967296 }
+{
+    expect_word(rt, original(alloc, 3, &[a, n], &[])?, words.0, 2);
+    let with = Instr::Bin(BinOp::LShr, W, reg(0), reg(1));
+    expect_word(rt, mutated(alloc, 12, with, 3, &[a, n], &[])?, words.1, 2);
+    let with = Instr::Bin(BinOp::AShr, W, reg(0), reg(1));
+    expect_word(rt, mutated(alloc, 12, with, 3, &[a, n], &[])?, words.2, 2);
+    Ok(())
+}
+
+#[test]
+fn shifts(rt: HostRuntime) -> Result<(), Fail> {
+    let alloc = rt.alloc();
+    let ones = 0xffff_ffff;
+    expect_shifts(&rt, alloc, ones, 31, (0x8000_0000, 1, ones))?;
+    expect_shifts(&rt, alloc, ones, 32, (0, 0, ones))?;
+    expect_shifts(&rt, alloc, ones, 0x8000_0000, (0, 0, ones))?;
+    Ok(())
+}
+
+#[test]
+fn output(rt: HostRuntime) -> Result<(), Fail> {
+    let alloc = rt.alloc();
+    let done = Ending::Return(None);
+    expect(&rt, original(alloc, 4, &[], &[])?, done, 2, &[65]);
+    let with = put(alloc, 66)?;
+    expect(&rt, mutated(alloc, 14, with, 4, &[], &[])?, done, 2, &[66]);
+    Ok(())
+}
+
+#[test]
+fn takes_and_converts(rt: HostRuntime) -> Result<(), Fail> {
+    let alloc = rt.alloc();
+    let full = Ending::Trap(Trap::MemoryFull);
+    expect(&rt, original(alloc, 5, &[], &[])?, full, 1, &[]);
+    let low = 0xffff_ffff_ffff_ff80;
+    expect_word(&rt, original(alloc, 6, &[0x180], &[])?, low, 6);
+    Ok(())
+}
+
+#[test]
+fn ends_from_outside(rt: HostRuntime) -> Result<(), Fail> {
+    let alloc = rt.alloc();
+    // a byte of the input, and -1 where there is none
+    let byte = Ending::Exit(7);
+    expect(&rt, original(alloc, 7, &[], &[7])?, byte, 2, &[]);
+    let none = Ending::Exit(0xffff_ffff);
+    expect(&rt, original(alloc, 7, &[], &[])?, none, 2, &[]);
+    let with = Instr::Call(Callee::Abort, Items::new(alloc));
+    let abort = Ending::Trap(Trap::Abort);
+    expect(&rt, mutated(alloc, 25, with, 7, &[], &[])?, abort, 2, &[]);
+    Ok(())
+}
+
+#[test]
+fn reads_what_is_not_set(rt: HostRuntime) -> Result<(), Fail> {
+    let alloc = rt.alloc();
+    let with = Instr::Bin(BinOp::Shl, W, reg(2), reg(1));
+    let unset = Ending::Trap(Trap::UnsetRegister);
+    expect(
+        &rt,
+        mutated(alloc, 12, with, 3, &[1, 1], &[])?,
+        unset,
+        1,
+        &[],
+    );
+    Ok(())
+}
+
+/// The lowest byte stands first: stores of 16, 32 and 64 bits, and loads of 16 and 32. A store to a
+/// register that isn't set yet traps.
+#[test]
+fn bytes_of_words(rt: HostRuntime) -> Result<(), Fail> {
+    let alloc = rt.alloc();
+    expect_word(&rt, original(alloc, 8, &[], &[])?, 0x0302, 6);
+    let with = Instr::Store(W, word(0xddcc_bbaa), reg(0));
+    expect_word(&rt, mutated(alloc, 28, with, 8, &[], &[])?, 0xccbb, 6);
+    let with = Instr::Store(Width::W16, word(0xbbaa), reg(0));
+    expect_word(&rt, mutated(alloc, 28, with, 8, &[], &[])?, 0x00bb, 6);
+    let with = Instr::Store(Width::W8, word(0xaa), reg(1));
+    let unset = Ending::Trap(Trap::UnsetRegister);
+    expect(&rt, mutated(alloc, 28, with, 8, &[], &[])?, unset, 2, &[]);
+    let with = Instr::Store(Width::W64, word(0x0807_0605_0403_0201), reg(0));
+    expect_word(&rt, mutated(alloc, 2, with, 0, &[], &[])?, 0x0403_0201, 5);
+    Ok(())
+}
+
+#[test]
+fn paths_into_structs(rt: HostRuntime) -> Result<(), Fail> {
+    let alloc = rt.alloc();
+    // two elements back from the second struct is the last element of the first
+    expect_word(&rt, original(alloc, 9, &[0xffff_fffe], &[])?, 77, 6);
+    // three back is the first one, which is not looked at
+    expect_word(&rt, original(alloc, 9, &[0xffff_fffd], &[])?, 0, 6);
+    // one back is past the first struct
+    let out = Ending::Trap(Trap::AddressRange);
+    expect(&rt, original(alloc, 9, &[0xffff_ffff], &[])?, out, 3, &[]);
+    Ok(())
+}
+
+#[test]
+fn other_operations(rt: HostRuntime) -> Result<(), Fail> {
+    let alloc = rt.alloc();
+    let least = [0x8000_0000];
+    let with = Instr::Bin(BinOp::Mul, W, reg(0), word(3));
+    expect_word(
+        &rt,
+        mutated(alloc, 5, with, 1, &least, &[])?,
+        0x8000_0000,
+        2,
+    );
+    let with = Instr::Bin(BinOp::UDiv, W, reg(0), word(2));
+    expect_word(
+        &rt,
+        mutated(alloc, 5, with, 1, &least, &[])?,
+        0x4000_0000,
+        2,
+    );
+    let with = Instr::Bin(BinOp::SRem, W, reg(0), word(3));
+    expect_word(
+        &rt,
+        mutated(alloc, 5, with, 1, &least, &[])?,
+        0xffff_fffe,
+        2,
+    );
+    let with = Instr::Bin(BinOp::SRem, W, reg(0), word(0xffff_ffff));
+    let over = Ending::Trap(Trap::DivideOverflow);
+    expect(&rt, mutated(alloc, 5, with, 1, &least, &[])?, over, 1, &[]);
+    let with = Instr::Bin(BinOp::URem, W, reg(0), word(3));
+    expect_word(&rt, mutated(alloc, 5, with, 1, &least, &[])?, 2, 2);
+    let with = Instr::Bin(BinOp::Xor, W, reg(0), word(0xffff_ffff));
+    expect_word(
+        &rt,
+        mutated(alloc, 5, with, 1, &least, &[])?,
+        0x7fff_ffff,
+        2,
+    );
+    Ok(())
+}
+
+// A store among the constants.
+
+fn constants(alloc: Global) -> Result<Code, OutOfMemory>
+    ensures { IfOk result (IsCode trial.constants) }
+{
+    let f = straight(alloc, b'k', &[], None, &[], 0, 2)?;
+    let store = Instr::Store(Width::W8, word(1), word(1031));
+    Ok(Code {
+        funcs: Items::from_vec(vec![in alloc; f]?),
+        instrs: Items::from_vec(vec![in alloc; store, Instr::Ret(None)]?),
+        results: Items::from_slice(alloc, &[None, None])?,
+        memory: Items::from_vec(vec![in alloc; 0; 1040]?),
+        const_end: 1032,
+        stack_base: 1040,
+        signs: Items::new(alloc),
+    })
+}
+
+fn run_constants(alloc: Global) -> Result<Alone, OutOfMemory> {
+    let code = constants(alloc)?;
+    run_original(alloc, &code, 0, &[], &[], 1_000_000)
+}
+
+#[test]
+fn stores_among_constants(rt: HostRuntime) -> Result<(), Fail> {
+    let alone = run_constants(rt.alloc())?;
+    expect(&rt, alone, Ending::Trap(Trap::ConstantWrite), 1, &[]);
+    Ok(())
+}
+
+// Frames of 65 registers each.
+
+fn deep_instrs(alloc: Global) -> Result<Items<Instr>, OutOfMemory>
+    ensures { IfOk result (λ is. is ≡ (trial.deep []).instrs) }
+{
+    let mut all = Items::new(alloc);
+    for k in 0..63u32 {
+        all.push(Instr::Bin(BinOp::Add, W, reg(0), word(1)))?;
+    }
+    let args = Items::from_slice(alloc, &[reg(0)])?;
+    all.push(Instr::Call(Callee::Func(0), args))?;
+    all.push(Instr::Ret(Some(reg(64))))?;
+    Ok(all)
+}
+
+fn deep_results(alloc: Global) -> Result<Items<Option<u32>>, OutOfMemory>
+    ensures { IfOk result (λ rs. rs ≡ (trial.deep []).results) }
+{
+    let mut all = Items::new(alloc);
+    for k in 0..64 {
+        all.push(Some(k + 1))?;
+    }
+    all.push(None)?;
+    Ok(all)
+}
+
+fn deep(alloc: Global) -> Result<Code, OutOfMemory>
+    ensures { IfOk result (IsCode trial.deep) }
+{
+    let f = straight(alloc, b'q', &[INT], Some(INT), &[INT; 65], 0, 65)?;
+    let funcs = Items::from_vec(vec![in alloc; f]?);
+    code_of(alloc, funcs, deep_instrs(alloc)?, deep_results(alloc)?)
+}
+
+fn run_deep(alloc: Global) -> Result<Alone, OutOfMemory> {
+    let code = deep(alloc)?;
+    run_original(alloc, &code, 0, &[1], &[], 1_000_000)
+}
+
+/// 504 frames of 65 registers fit into 32,768, and each makes 64 changes.
+#[test]
+fn fills_the_registers(rt: HostRuntime) -> Result<(), Fail> {
+    let alone = run_deep(rt.alloc())?;
+    expect(&rt, alone, Ending::Trap(Trap::RegistersFull), 32_256, &[]);
+    Ok(())
+}
