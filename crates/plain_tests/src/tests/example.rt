@@ -6,7 +6,7 @@ ghost use Rattle.std.specs.Prelude.{◌<◌, ◌≡◌, ◌≤◌, ◌^◌, IfOk
 use crate::tests::{BIT, INT, W, block, code_of, func, reg, run_replaced, word};
 use am_base::{BinOp, Ending, OutOfMemory, Pred};
 use am_lists::Items;
-use code_form::{Code, Func, Instr};
+use code_form::{Code, Func, Instr, Operand};
 use std::alloc::Global;
 use std::test::Fail;
 
@@ -43,7 +43,7 @@ fn ends(alloc: Global, m: u32, args: (u64, u64), budget: u64) -> Result<(Ending,
     requires few { budget ≤ 10000000 }
 {
     let code = example(alloc)?;
-    let with = Instr::Bin(BinOp::Sub, W, reg(0), reg(1));
+    let with = Instr::Bin(BinOp::Sub, W, Operand::Reg(0), Operand::Reg(1));
     let alone = run_replaced(alloc, &code, 0, with, m, 0, &[args.0, args.1], &[], budget)?;
     Ok((alone.outcome.ending, alone.length))
 }

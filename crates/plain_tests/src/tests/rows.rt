@@ -7,7 +7,7 @@ ghost use Rattle.std.specs.Prelude.{[], ◌<◌, ◌≡◌, ◌≤◌, ◌^◌, 
 use crate::tests::{BIT, INT, PTR, W, block, code_of, func, reg, run_original, run_replaced, word};
 use am_base::{BinOp, Ending, OutOfMemory, Pred, Trap};
 use am_lists::Items;
-use code_form::{Callee, Code, Func, Instr};
+use code_form::{Callee, Code, Func, Instr, Operand};
 use plain_machine::Alone;
 use std::alloc::Global;
 use std::test::Fail;
@@ -54,7 +54,7 @@ fn sum_ends(alloc: Global, m: u32, n: u64, budget: u64) -> Result<(Ending, u64, 
     requires few { budget ≤ 10000000 }
 {
     let code = sum_code(alloc)?;
-    let with = Instr::Bin(BinOp::Add, W, reg(1), word(0));
+    let with = Instr::Bin(BinOp::Add, W, Operand::Reg(1), Operand::Word(0));
     let alone = run_replaced(alloc, &code, 4, with, m, 0, &[n], &[], budget)?;
     Ok(shown(alone))
 }

@@ -1,7 +1,6 @@
 //! Ten functions of one block as they stand and with replacements, frames of many registers, and a store among the constants.
 ghost use Rattle.code_form.specs.Fit.{AreArguments};
 ghost use Rattle.code_form.specs.Places.{function_at};
-ghost use Rattle.code_form.specs.declared.instr.Operand.TheVariants.{Word};
 ghost use Rattle.plain_tests.specs.Codes.{IsCode};
 ghost use Rattle.plain_tests.specs.Fitting.{PassesAt};
 ghost use Rattle.plain_tests.specs.Trials as trial;
@@ -13,7 +12,7 @@ use crate::tests::{
 };
 use am_base::{BinOp, Cast, Ending, OutOfMemory, Trap, Width};
 use am_lists::Items;
-use code_form::{Callee, Code, Func, Instr, TyScalar};
+use code_form::{Callee, Code, Func, Instr, Operand, TyScalar};
 use plain_machine::Alone;
 use std::alloc::Global;
 use std::process::Abort;
@@ -73,10 +72,17 @@ fn funcs(alloc: Global) -> Result<Items<Func>, OutOfMemory>
 
 /// A call of `putchar` with a byte.
 fn put(alloc: Global, byte: u64) -> Result<Instr, OutOfMemory>
-    ensures { IfOk result (λ i. i ≡ Instr.Call Callee.PutChar (Word byte ∷ [])) }
+    ensures { IfOk result (λ i. i ≡ Instr.Call Callee.PutChar (Operand.Word byte ∷ [])) }
 {
     let args = Items::from_slice(alloc, &[word(byte)])?;
     Ok(Instr::Call(Callee::PutChar, args))
+}
+
+/// A call of `abort`.
+fn abort(alloc: Global) -> Instr
+    ensures { result ≡ Instr.Call Callee.Abort [] }
+{
+    Instr::Call(Callee::Abort, Items::new(alloc))
 }
 
 fn first_instrs(alloc: Global) -> Result<Items<Instr>, OutOfMemory>
@@ -193,7 +199,7 @@ fn mutated(
 fn stores_of_zero(rt: HostRuntime) -> Result<(), Fail> {
     let alloc = rt.alloc();
     expect_word(&rt, original(alloc, 0, &[], &[])?, 0, 5);
-    let with = Instr::Store(W, word(0), reg(1));
+    let with = Instr::Store(W, Operand::Word(0), Operand::Reg(1));
     expect_word(&rt, mutated(alloc, 2, with, 0, &[], &[])?, 0, 5);
     Ok(())
 }
@@ -203,10 +209,10 @@ fn divisions(rt: HostRuntime) -> Result<(), Fail> {
     let alloc = rt.alloc();
     let least = [0x8000_0000];
     expect_word(&rt, original(alloc, 1, &least, &[])?, 0xc000_0000, 2);
-    let with = Instr::Bin(BinOp::SDiv, W, reg(0), word(0));
+    let with = Instr::Bin(BinOp::SDiv, W, Operand::Reg(0), Operand::Word(0));
     let zero = Ending::Trap(Trap::DivideByZero);
     expect(&rt, mutated(alloc, 5, with, 1, &least, &[])?, zero, 1, &[]);
-    let with = Instr::Bin(BinOp::SDiv, W, reg(0), word(0xffff_ffff));
+    let with = Instr::Bin(BinOp::SDiv, W, Operand::Reg(0), Operand::Word(0xffff_ffff));
     let over = Ending::Trap(Trap::DivideOverflow);
     expect(&rt, mutated(alloc, 5, with, 1, &least, &[])?, over, 1, &[]);
     Ok(())
@@ -222,7 +228,7 @@ fn stores_across_pages(rt: HostRuntime) -> Result<(), Fail> {
         0xffff_ffff_ffff_ffff,
         5,
     );
-    let with = Instr::Store(Width::W64, word(0), reg(2));
+    let with = Instr::Store(Width::W64, Operand::Word(0), Operand::Reg(2));
     expect_word(&rt, mutated(alloc, 9, with, 2, &ones, &[])?, 0, 5);
     Ok(())
 }
@@ -239,9 +245,9 @@ fn expect_shifts(
     requires count { n < 4294967296 }
 {
     expect_word(rt, original(alloc, 3, &[a, n], &[])?, words.0, 2);
-    let with = Instr::Bin(BinOp::LShr, W, reg(0), reg(1));
+    let with = Instr::Bin(BinOp::LShr, W, Operand::Reg(0), Operand::Reg(1));
     expect_word(rt, mutated(alloc, 12, with, 3, &[a, n], &[])?, words.1, 2);
-    let with = Instr::Bin(BinOp::AShr, W, reg(0), reg(1));
+    let with = Instr::Bin(BinOp::AShr, W, Operand::Reg(0), Operand::Reg(1));
     expect_word(rt, mutated(alloc, 12, with, 3, &[a, n], &[])?, words.2, 2);
     Ok(())
 }
@@ -284,7 +290,7 @@ fn ends_from_outside(rt: HostRuntime) -> Result<(), Fail> {
     expect(&rt, original(alloc, 7, &[], &[7])?, byte, 2, &[]);
     let none = Ending::Exit(0xffff_ffff);
     expect(&rt, original(alloc, 7, &[], &[])?, none, 2, &[]);
-    let with = Instr::Call(Callee::Abort, Items::new(alloc));
+    let with = abort(alloc);
     let abort = Ending::Trap(Trap::Abort);
     expect(&rt, mutated(alloc, 25, with, 7, &[], &[])?, abort, 2, &[]);
     Ok(())
@@ -293,7 +299,7 @@ fn ends_from_outside(rt: HostRuntime) -> Result<(), Fail> {
 #[test]
 fn reads_what_is_not_set(rt: HostRuntime) -> Result<(), Fail> {
     let alloc = rt.alloc();
-    let with = Instr::Bin(BinOp::Shl, W, reg(2), reg(1));
+    let with = Instr::Bin(BinOp::Shl, W, Operand::Reg(2), Operand::Reg(1));
     let unset = Ending::Trap(Trap::UnsetRegister);
     expect(
         &rt,
@@ -311,14 +317,18 @@ fn reads_what_is_not_set(rt: HostRuntime) -> Result<(), Fail> {
 fn bytes_of_words(rt: HostRuntime) -> Result<(), Fail> {
     let alloc = rt.alloc();
     expect_word(&rt, original(alloc, 8, &[], &[])?, 0x0302, 6);
-    let with = Instr::Store(W, word(0xddcc_bbaa), reg(0));
+    let with = Instr::Store(W, Operand::Word(0xddcc_bbaa), Operand::Reg(0));
     expect_word(&rt, mutated(alloc, 28, with, 8, &[], &[])?, 0xccbb, 6);
-    let with = Instr::Store(Width::W16, word(0xbbaa), reg(0));
+    let with = Instr::Store(Width::W16, Operand::Word(0xbbaa), Operand::Reg(0));
     expect_word(&rt, mutated(alloc, 28, with, 8, &[], &[])?, 0x00bb, 6);
-    let with = Instr::Store(Width::W8, word(0xaa), reg(1));
+    let with = Instr::Store(Width::W8, Operand::Word(0xaa), Operand::Reg(1));
     let unset = Ending::Trap(Trap::UnsetRegister);
     expect(&rt, mutated(alloc, 28, with, 8, &[], &[])?, unset, 2, &[]);
-    let with = Instr::Store(Width::W64, word(0x0807_0605_0403_0201), reg(0));
+    let with = Instr::Store(
+        Width::W64,
+        Operand::Word(0x0807_0605_0403_0201),
+        Operand::Reg(0),
+    );
     expect_word(&rt, mutated(alloc, 2, with, 0, &[], &[])?, 0x0403_0201, 5);
     Ok(())
 }
@@ -340,33 +350,33 @@ fn paths_into_structs(rt: HostRuntime) -> Result<(), Fail> {
 fn other_operations(rt: HostRuntime) -> Result<(), Fail> {
     let alloc = rt.alloc();
     let least = [0x8000_0000];
-    let with = Instr::Bin(BinOp::Mul, W, reg(0), word(3));
+    let with = Instr::Bin(BinOp::Mul, W, Operand::Reg(0), Operand::Word(3));
     expect_word(
         &rt,
         mutated(alloc, 5, with, 1, &least, &[])?,
         0x8000_0000,
         2,
     );
-    let with = Instr::Bin(BinOp::UDiv, W, reg(0), word(2));
+    let with = Instr::Bin(BinOp::UDiv, W, Operand::Reg(0), Operand::Word(2));
     expect_word(
         &rt,
         mutated(alloc, 5, with, 1, &least, &[])?,
         0x4000_0000,
         2,
     );
-    let with = Instr::Bin(BinOp::SRem, W, reg(0), word(3));
+    let with = Instr::Bin(BinOp::SRem, W, Operand::Reg(0), Operand::Word(3));
     expect_word(
         &rt,
         mutated(alloc, 5, with, 1, &least, &[])?,
         0xffff_fffe,
         2,
     );
-    let with = Instr::Bin(BinOp::SRem, W, reg(0), word(0xffff_ffff));
+    let with = Instr::Bin(BinOp::SRem, W, Operand::Reg(0), Operand::Word(0xffff_ffff));
     let over = Ending::Trap(Trap::DivideOverflow);
     expect(&rt, mutated(alloc, 5, with, 1, &least, &[])?, over, 1, &[]);
-    let with = Instr::Bin(BinOp::URem, W, reg(0), word(3));
+    let with = Instr::Bin(BinOp::URem, W, Operand::Reg(0), Operand::Word(3));
     expect_word(&rt, mutated(alloc, 5, with, 1, &least, &[])?, 2, 2);
-    let with = Instr::Bin(BinOp::Xor, W, reg(0), word(0xffff_ffff));
+    let with = Instr::Bin(BinOp::Xor, W, Operand::Reg(0), Operand::Word(0xffff_ffff));
     expect_word(
         &rt,
         mutated(alloc, 5, with, 1, &least, &[])?,
