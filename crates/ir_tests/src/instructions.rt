@@ -314,6 +314,12 @@ fn values_differ_in_a_part(rt: HostRuntime) -> Result<(), Fail> {
             "icmp eq i8 1, 3",
         ],
     )?;
+    Ok(())
+}
+
+#[test]
+fn choices_and_conversions_differ_in_a_part(rt: HostRuntime) -> Result<(), Fail> {
+    let alloc = rt.alloc();
     expect_others(
         &rt,
         alloc,
@@ -422,6 +428,12 @@ fn jumps_differ_in_a_part(rt: HostRuntime) -> Result<(), Fail> {
             "br i1 %c, label %a, label %a",
         ],
     )?;
+    Ok(())
+}
+
+#[test]
+fn switches_and_returns_differ_in_a_part(rt: HostRuntime) -> Result<(), Fail> {
+    let alloc = rt.alloc();
     expect_others(
         &rt,
         alloc,

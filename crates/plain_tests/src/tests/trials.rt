@@ -386,6 +386,15 @@ fn other_operations(rt: HostRuntime) -> Result<(), Fail> {
     Ok(())
 }
 
+#[test]
+fn bits_in_common(rt: HostRuntime) -> Result<(), Fail> {
+    let alloc = rt.alloc();
+    let with = Instr::Bin(BinOp::And, W, Operand::Reg(0), Operand::Word(0xc000_0000));
+    let ran = mutated(alloc, 5, with, 1, &[0xa000_0000], &[])?;
+    expect_word(&rt, ran, 0x8000_0000, 2);
+    Ok(())
+}
+
 // A store among the constants.
 
 fn constants(alloc: Global) -> Result<Code, OutOfMemory>
