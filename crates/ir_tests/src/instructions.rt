@@ -375,6 +375,12 @@ fn memory_differs_in_a_part(rt: HostRuntime) -> Result<(), Fail> {
             "store i8 1, ptr %q",
         ],
     )?;
+    Ok(())
+}
+
+#[test]
+fn addresses_differ_in_a_part(rt: HostRuntime) -> Result<(), Fail> {
+    let alloc = rt.alloc();
     expect_others(
         &rt,
         alloc,
@@ -432,7 +438,7 @@ fn jumps_differ_in_a_part(rt: HostRuntime) -> Result<(), Fail> {
 }
 
 #[test]
-fn switches_and_returns_differ_in_a_part(rt: HostRuntime) -> Result<(), Fail> {
+fn ends_of_blocks_differ_in_a_part(rt: HostRuntime) -> Result<(), Fail> {
     let alloc = rt.alloc();
     expect_others(
         &rt,
@@ -507,6 +513,12 @@ fn operands_differ_in_a_part(rt: HostRuntime) -> Result<(), Fail> {
         "freeze i1 true",
         &["freeze i1 false", "freeze i1 1"],
     )?;
+    Ok(())
+}
+
+#[test]
+fn constants_differ_in_a_part(rt: HostRuntime) -> Result<(), Fail> {
+    let alloc = rt.alloc();
     expect_others(
         &rt,
         alloc,
