@@ -49,16 +49,15 @@ fn same_width(v: Width, w: Width) -> bool
 fn same_operands(xs: &[Operand], ys: &[Operand]) -> bool
     ensures { IsTrue result ↔ (xs.now ≡ ys.now) }
 {
-    match (xs.split_first(), ys.split_first()) {
-        (None, None) => true,
-        (Some((x, xs)), Some((y, ys))) => {
-            if !same_operand(*x, *y) {
-                return false;
-            }
-            same_operands(xs, ys)
-        }
-        _ => false,
+    if xs.len() != ys.len() {
+        return false;
     }
+    'each: for (i, x) in xs.iter().enumerate() {
+        if !same_operand(*x, ys[i]) {
+            return false;
+        }
+    }
+    true
 }
 
 fn same_index(x: (u64, Width, Operand), y: (u64, Width, Operand)) -> bool
@@ -76,16 +75,15 @@ fn same_index(x: (u64, Width, Operand), y: (u64, Width, Operand)) -> bool
 fn same_indices(xs: &[(u64, Width, Operand)], ys: &[(u64, Width, Operand)]) -> bool
     ensures { IsTrue result ↔ (xs.now ≡ ys.now) }
 {
-    match (xs.split_first(), ys.split_first()) {
-        (None, None) => true,
-        (Some((x, xs)), Some((y, ys))) => {
-            if !same_index(*x, *y) {
-                return false;
-            }
-            same_indices(xs, ys)
-        }
-        _ => false,
+    if xs.len() != ys.len() {
+        return false;
     }
+    'each: for (i, x) in xs.iter().enumerate() {
+        if !same_index(*x, ys[i]) {
+            return false;
+        }
+    }
+    true
 }
 
 fn same_entry(x: (u32, Operand), y: (u32, Operand)) -> bool
@@ -100,16 +98,15 @@ fn same_entry(x: (u32, Operand), y: (u32, Operand)) -> bool
 fn same_entries(xs: &[(u32, Operand)], ys: &[(u32, Operand)]) -> bool
     ensures { IsTrue result ↔ (xs.now ≡ ys.now) }
 {
-    match (xs.split_first(), ys.split_first()) {
-        (None, None) => true,
-        (Some((x, xs)), Some((y, ys))) => {
-            if !same_entry(*x, *y) {
-                return false;
-            }
-            same_entries(xs, ys)
-        }
-        _ => false,
+    if xs.len() != ys.len() {
+        return false;
     }
+    'each: for (i, x) in xs.iter().enumerate() {
+        if !same_entry(*x, ys[i]) {
+            return false;
+        }
+    }
+    true
 }
 
 fn same_case(x: (u64, u32), y: (u64, u32)) -> bool
@@ -124,16 +121,15 @@ fn same_case(x: (u64, u32), y: (u64, u32)) -> bool
 fn same_cases(xs: &[(u64, u32)], ys: &[(u64, u32)]) -> bool
     ensures { IsTrue result ↔ (xs.now ≡ ys.now) }
 {
-    match (xs.split_first(), ys.split_first()) {
-        (None, None) => true,
-        (Some((x, xs)), Some((y, ys))) => {
-            if !same_case(*x, *y) {
-                return false;
-            }
-            same_cases(xs, ys)
-        }
-        _ => false,
+    if xs.len() != ys.len() {
+        return false;
     }
+    'each: for (i, x) in xs.iter().enumerate() {
+        if !same_case(*x, ys[i]) {
+            return false;
+        }
+    }
+    true
 }
 
 fn same_bin(op: BinOp, w: Width, x: Operand, y: Operand, b: &Instr) -> bool

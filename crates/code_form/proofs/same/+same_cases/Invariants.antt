@@ -1,5 +1,0 @@
-use Rattle.std.proofs.Common.{length}
-use Rattle.code_form.proofs.same.+same_cases.Given as goal
-
-abbrev pub decreases-same_cases : goal.decreases-same_cases
-decreases-same_cases l = length l.xs.now

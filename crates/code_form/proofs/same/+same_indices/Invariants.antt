@@ -1,5 +1,0 @@
-use Rattle.std.proofs.Common.{length}
-use Rattle.code_form.proofs.same.+same_indices.Given as goal
-
-abbrev pub decreases-same_indices : goal.decreases-same_indices
-decreases-same_indices l = length l.xs.now
