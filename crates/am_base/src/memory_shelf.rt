@@ -1,3 +1,5 @@
+//! A shelf in memory, with calls that fail by number.
+
 ghost use Rattle.std.specs.Prelude.{◌≡◌, ℕ, ◌+◌, ◌-◌, ◌^◌, ◌<◌, ◌≤◌, ◌↔◌, List, [], length, take, drop, min, Some, None, IsSome, IfOk, OnOk, OnErr, IsTrue, not, string_bytes};
 ghost use Rattle.std.specs.Option.{option_copied};
 ghost use Rattle.am_base.specs.Cause.{Rose};
@@ -6,8 +8,8 @@ ghost use Rattle.am_base.specs.Files.{calls_after, fault_count, file_in, file_li
 use crate::shelf::{Shelf, ShelfFault};
 use std::marker::Model;
 
-/// A shelf in memory, whose calls of chosen numbers fail. It tells its files. The faults of a name are the calls so far that were to fail,
-/// and for a name that isn't held all calls so far.
+/// A shelf in memory, whose calls of chosen numbers fail. It tells its files. The faults of a name
+/// are the calls so far that were to fail, and for a name that isn't held all calls so far.
 #[derive(Drop)]
 pub struct MemoryShelf {
     files: Vec<(String, Vec<u8>)>,
@@ -28,8 +30,8 @@ impl Model for MemoryShelf {
 }
 
 impl MemoryShelf {
-    /// A shelf of these files, of which the first of a name is held. Its calls are numbered from 1, and those whose number is in
-    /// `failing` fail. It takes no memory.
+    /// A shelf of these files, of which the first of a name is held. Its calls are numbered from 1,
+    /// and those whose number is in `failing` fail. It takes no memory.
     #[tactic(auto, unfolding(crate::specs::Files::listed_calls))]
     pub fn new(files: Vec<(String, Vec<u8>)>, failing: Vec<u64>) -> MemoryShelf
         ensures files { result.files ≡ file_list files.items }
@@ -44,7 +46,8 @@ impl MemoryShelf {
         }
     }
 
-    /// Counts a call, and says whether it is to fail. A call past the number 2^64 - 1 has no number and doesn't.
+    /// Counts a call, and says whether it is to fail. A call past the number 2^64 - 1 has no number
+    /// and doesn't.
     fn count_call(&mut self) -> bool
         ensures fits { self.old.calls < 2 ^ 64 }
         ensures listed { result ≡ is_next_listed self.old }
@@ -72,7 +75,8 @@ fn find_file<'a>(files: &'a [(String, Vec<u8>)], name: &str) -> Option<&'a Vec<u
     None
 }
 
-/// Copies a file's bytes from a place into the front of a buffer, as many as there are and have room, and answers how many.
+/// Copies a file's bytes from a place into the front of a buffer, as many as there are and have
+/// room, and answers how many.
 fn copy_piece(file: &[u8], from: u64, into: &mut [u8]) -> usize
     ensures count { result ≡ min (length into.old) (length file.now - from) }
     ensures bytes { take result into.new ≡ take result (drop from file.now) }
@@ -89,7 +93,8 @@ impl Shelf for MemoryShelf {
 
     ghost faults = { fault_count };
 
-    /// Fails exactly in the calls that are to fail. Of the others exactly those with a name that isn't held miss.
+    /// Fails exactly in the calls that are to fail. Of the others exactly those with a name that
+    /// isn't held miss.
     fn read_at(&mut self, name: &str, from: u64, into: &mut [u8]) -> Result<usize, ShelfFault>
         ensures within { IfOk result (λ count. count ≤ length into.old) }
         ensures held { OnOk result (IsSome (file_in self.old.files name.now)) }

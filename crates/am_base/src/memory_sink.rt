@@ -1,3 +1,5 @@
+//! A sink in memory with a limited room, for tests of what writes.
+
 ghost use Rattle.std.specs.Prelude.{◌≡◌, ℕ, ◌+◌, ◌-◌, ◌^◌, ◌<◌, ◌≤◌, ◌↔◌, List, [], length, take, min, Some, IfOk, OnOk, OnErr, IsErr, ◌++◌};
 ghost use Rattle.am_base.specs.Cause.{Rose};
 ghost use Rattle.am_base.specs.Text.{sink_limit};
@@ -7,8 +9,8 @@ use crate::sink::{Sink, SinkFailed};
 use std::alloc::Global;
 use std::marker::Model;
 
-/// A sink in memory with room for a number of bytes that is chosen when it is made. It tells what was written, and counts the writes that
-/// failed.
+/// A sink in memory with room for a number of bytes that is chosen when it is made. It tells what
+/// was written, and counts the writes that failed.
 #[derive(Drop)]
 pub struct MemorySink {
     bytes: Vec<u8>,
@@ -32,7 +34,8 @@ impl Model for MemorySink {
 }
 
 impl MemorySink {
-    /// A sink that takes bytes until it has `fail_after` bytes, or `room` bytes. It takes the memory for `room` bytes now, and none later.
+    /// A sink that takes bytes until it has `fail_after` bytes, or `room` bytes. It takes the
+    /// memory for `room` bytes now, and none later.
     pub fn new(
         alloc: Global,
         room: usize,
@@ -67,7 +70,8 @@ impl Sink for MemorySink {
 
     ghost faults = { λ text. text.faults };
 
-    /// Writes as much of the piece as there is place for. It fails exactly where the piece isn't empty and no place is left.
+    /// Writes as much of the piece as there is place for. It fails exactly where the piece isn't
+    /// empty and no place is left.
     fn write(&mut self, piece: &[u8]) -> Result<usize, SinkFailed>
         ensures within { IfOk result (λ count. count ≤ length piece.now) }
         ensures some { IfOk result (λ count. 0 < length piece.now → 0 < count) }

@@ -1,3 +1,5 @@
+//! Traps, endings and outcomes of a run, and the one error of a call that takes memory.
+
 ghost use Rattle.std.specs.Prelude.{◌≡◌};
 ghost use Rattle.am_base.specs.Outcome.{trap_number};
 
@@ -5,7 +7,8 @@ use am_lists::Bytes;
 use std::alloc::{AllocError, AllocFailed};
 use thiserror::Error;
 
-/// No memory could be had. A call that takes an allocator, or grows a list that holds one, may answer this at any time, and no other call does.
+/// No memory could be had. A call that takes an allocator, or grows a list that holds one, may
+/// answer this at any time, and no other call does.
 #[derive(Clone, Copy, Debug, PartialEq, Eq, Error)]
 #[error("out of memory")]
 pub struct OutOfMemory;
@@ -22,7 +25,8 @@ impl<T: Drop> From<AllocFailed<T>> for OutOfMemory {
     }
 }
 
-/// What ends a run in place of undefined behaviour, numbered from 1 in this order. The traps are this project's own.
+/// What ends a run in place of undefined behaviour, numbered from 1 in this order. The traps are
+/// this project's own.
 #[derive(Clone, Copy, Debug, PartialEq, Eq)]
 pub enum Trap {
     /// A division or remainder by zero.

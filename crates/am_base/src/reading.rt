@@ -1,7 +1,10 @@
+//! Reading a whole file of a shelf.
+
 ghost use Rattle.std.specs.Prelude.{◌≡◌, ℕ, ◌+◌, ◌<◌, ◌≤◌, List, length, take, IfOk, OnOk};
 ghost use Rattle.am_base.specs.Cause.{Rose};
 ghost use Rattle.am_base.specs.Files.{Holds, IsHeld};
 
+use crate::limits::MAX_FILE_BYTES;
 use crate::shelf::Shelf;
 use thiserror::Error;
 
@@ -16,22 +19,21 @@ pub enum ReadFailed {
     TooLong,
 }
 
-/// The greatest length of a file, in bytes.
-pub const FILE_LIMIT: usize = 4_194_304;
-
-/// Reads a whole file into the front of a buffer of 4,194,305 bytes, and answers its length in bytes. It refuses a file of more bytes than
-/// the limit as `TooLong`, once the buffer is full, and answers `Fault` where a read failed or no file has the name. Each read but the
-/// last takes at least one byte. The shelf holds the same files whatever it answers; what the buffer has after a refusal is left open.
+/// Reads a whole file into the front of a buffer of 4,194,305 bytes, and answers its length in
+/// bytes. It refuses a file of more bytes than the limit as `TooLong`, once the buffer is full, and
+/// answers `Fault` where a read failed or no file has the name. Each read but the last takes at
+/// least one byte. The shelf holds the same files whatever it answers; what the buffer has after a
+/// refusal is left open.
 pub fn read_whole<F: Shelf>(shelf: &mut F, name: &str, into: &mut [u8]) -> Result<usize, ReadFailed>
-    requires { length into.old ≡ FILE_LIMIT + 1 }
-    ensures within { IfOk result (λ count. count ≤ FILE_LIMIT) }
+    requires { length into.old ≡ MAX_FILE_BYTES + 1 }
+    ensures within { IfOk result (λ count. count ≤ MAX_FILE_BYTES) }
     ensures held { OnOk result (IsHeld (F.files shelf.old) name.now) }
     ensures whole { IfOk result (λ count. (file : List ℕ) → Holds (F.files shelf.old) name.now file →
         take count into.new ≡ file) }
     ensures length { IfOk result (λ count. (file : List ℕ) → Holds (F.files shelf.old) name.now file →
         length file ≡ count) }
     ensures long { result ≡ Err ReadFailed.TooLong → (file : List ℕ) → Holds (F.files shelf.old) name.now file →
-        FILE_LIMIT < length file }
+        MAX_FILE_BYTES < length file }
     ensures long_held { result ≡ Err ReadFailed.TooLong → IsHeld (F.files shelf.old) name.now }
     ensures cause { result ≡ Err ReadFailed.Fault →
         Rose (F.faults shelf.old name.now) (F.faults shelf.new name.now) }

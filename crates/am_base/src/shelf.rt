@@ -1,3 +1,5 @@
+//! The trait through which files are read.
+
 ghost use Rattle.std.specs.Prelude.{◌≡◌, ℕ, ◌<◌, ◌≤◌, List, length, take, drop, IfOk, OnOk, OnErr};
 ghost use Rattle.am_base.specs.Cause.{Rose};
 ghost use Rattle.am_base.specs.Files.{Files, Holds, IsHeld, IsMissing};
@@ -15,16 +17,18 @@ pub enum ShelfFault {
     Failed,
 }
 
-/// What files are read from, by their names. A shelf has two meanings: the files that it holds, where it tells them, and for each name
-/// a count of faults. A fault is answered only by a call in which the count of the name given rose: it is greater after the call than
-/// before, or stands at 2^64 - 1 after it.
+/// A source of files by their names. A shelf has two meanings: the files that it holds,
+/// where it tells them, and for each name a count of faults. A fault is answered only by a call in
+/// which the count of the name given rose: it is greater after the call than before, or stands at
+/// 2^64 - 1 after it.
 pub trait Shelf {
     ghost files: { Self → Files };
 
     ghost faults: { Self → List ℕ → ℕ };
 
-    /// Reads bytes of the file from a place, counted from 0, into the front of `into`, and answers how many. No bytes into a buffer that
-    /// isn't empty mean that the file has none at the place. What `into` has behind the bytes read, and after a fault, is left open.
+    /// Reads bytes of the file from offset `from`, counted from 0, into the front of `into`, and
+    /// returns how many. No bytes into a buffer that isn't empty mean that the file has none at the
+    /// offset. What `into` has behind the bytes read, and after a fault, is left open.
     fn read_at(&mut self, name: &str, from: u64, into: &mut [u8]) -> Result<usize, ShelfFault>
         ensures within { IfOk result (λ count. count ≤ length into.old) }
         ensures held { OnOk result (IsHeld (files self.old) name.now) }

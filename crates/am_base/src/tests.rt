@@ -1,11 +1,14 @@
+//! Operations at the edges of their words, and shelves and sinks that fail in mid-stream.
 ghost use Rattle.std.specs.Prelude.{◌↔◌, IsTrue};
 ghost use Rattle.am_base.specs.Word.{IsWord};
 
 use super::*;
+use std::alloc::{AllocError, Global};
 use std::process::Abort;
 use std::test::Fail;
 
-/// Words of a width that tell most: a quarter of the range, the greatest signed value, the least, and the greatest word.
+/// Words of a width that tell most: a quarter of the range, the greatest signed value, the least,
+/// and the greatest word.
 struct Words {
     width: Width,
     quarter: u64,
@@ -156,30 +159,32 @@ const COMPARISONS: [(Pred, [bool; 4]); 10] = [
     (Pred::Sle, [true, true, false, false]),
 ];
 
+fn check_comparison(rt: &impl Abort, pred: Pred, width: Width, pair: (u64, u64), want: bool) {
+    let (a, b) = pair;
+    assert!(rt; is_word(width, a) && is_word(width, b));
+    assert_eq!(rt;
+        compare(pred, width, a, b),
+        want,
+        "{pred:?} {width:?} {a} {b}"
+    );
+}
+
+fn check_width(rt: &impl Abort, pred: Pred, words: &Words, want: &[bool; 4]) {
+    let (least, all) = (words.least, words.all);
+    let pairs = [(least, least), (all, 0), (1, all), (1, 0)];
+    for (pair, want) in pairs.iter().zip(want) {
+        check_comparison(rt, pred, words.width, *pair, *want);
+    }
+}
+
+/// At one bit the words 1 and 0 are -1 and 0.
 #[test]
 fn compares(rt: HostRuntime) {
     for (pred, want) in &COMPARISONS {
-        assert_eq!(rt; compare(*pred, Width::W1, 1, 1), want[0], "{pred:?}");
-        assert_eq!(rt; compare(*pred, Width::W1, 1, 0), want[1], "{pred:?}");
+        check_comparison(&rt, *pred, Width::W1, (1, 1), want[0]);
+        check_comparison(&rt, *pred, Width::W1, (1, 0), want[1]);
         for words in &WORDS {
-            let (width, least, all) = (words.width, words.least, words.all);
-            assert!(rt; is_word(width, least) && is_word(width, all) && is_word(width, 1));
-            assert_eq!(rt;
-                compare(*pred, width, least, least),
-                want[0],
-                "{pred:?} {width:?}"
-            );
-            assert_eq!(rt;
-                compare(*pred, width, all, 0),
-                want[1],
-                "{pred:?} {width:?}"
-            );
-            assert_eq!(rt;
-                compare(*pred, width, 1, all),
-                want[2],
-                "{pred:?} {width:?}"
-            );
-            assert_eq!(rt; compare(*pred, width, 1, 0), want[3], "{pred:?} {width:?}");
+            check_width(&rt, *pred, words, want);
         }
     }
 }
@@ -221,113 +226,88 @@ fn converts(rt: HostRuntime) {
     }
 }
 
-/// A shelf of three files, two of one name, whose third call fails.
-fn small_shelf(rt: HostRuntime) -> Result<MemoryShelf, Fail> {
-    let alloc = rt.alloc();
+/// A shelf of one file of this many bytes 7, whose call of this number fails.
+fn shelf_of(alloc: Global, length: usize, failing: u64) -> Result<MemoryShelf, AllocError> {
     let mut files = Vec::new(alloc);
-    for (name, file) in [("a", "first"), ("b", ""), ("a", "second")] {
-        files.push((name.to_string(alloc)?, file.as_bytes().to_vec(alloc)?))?;
-    }
-    Ok(MemoryShelf::new(files, [3].to_vec(alloc)?))
+    files.push(("a".to_string(alloc)?, vec![in alloc; 7; length]?))?;
+    Ok(MemoryShelf::new(files, [failing].to_vec(alloc)?))
 }
 
-#[test]
-fn reads_pieces(rt: HostRuntime) -> Result<(), Fail> {
-    let mut shelf = small_shelf(rt)?;
-    let rows = [
-        ("a", 0, Ok(4), "firs"),
-        ("a", 3, Ok(2), "st"),
-        ("a", 0, Err(ShelfFault::Failed), ""),
-        ("a", 5, Ok(0), ""),
-        ("b", 0, Ok(0), ""),
-        ("c", 0, Err(ShelfFault::Missing), ""),
-        ("a", u64::MAX, Ok(0), ""),
-    ];
-    for (name, from, want, bytes) in rows {
-        let mut into = [0; 4];
-        assert_eq!(rt; shelf.read_at(name, from, &mut into), want, "{name} {from}");
-        assert!(rt; into.starts_with(bytes.as_bytes()), "{name} {from}");
-    }
-    Ok(())
+/// The length of a file, the number of the call that fails, and what `read_whole` answers.
+type ReadRow = (usize, u64, Result<usize, ReadFailed>);
+
+const READS: [ReadRow; 6] = [
+    (3, 1, Err(ReadFailed::Fault)),
+    (3, 2, Err(ReadFailed::Fault)),
+    (3, 3, Ok(3)),
+    (0, 2, Ok(0)),
+    (MAX_FILE_BYTES, 3, Ok(MAX_FILE_BYTES)),
+    (MAX_FILE_BYTES + 1, 2, Err(ReadFailed::TooLong)),
+];
+
+/// Whether `read_whole` answers as the row says, with bytes 7 alone.
+fn reads(alloc: Global, row: &ReadRow) -> Result<bool, AllocError> {
+    let mut into = vec![in alloc; 0; MAX_FILE_BYTES + 1]?;
+    let mut shelf = shelf_of(alloc, row.0, row.1)?;
+    let answer = read_whole(&mut shelf, "a", into.as_mut_slice());
+    let count = answer.unwrap_or(0);
+    Ok(answer == row.2 && into.iter().take(count).all(|byte| *byte == 7))
 }
 
 #[test]
 fn reads_whole_files(rt: HostRuntime) -> Result<(), Fail> {
-    let rows = [
-        (3, 1, Err(ReadFailed::Fault)),
-        (3, 2, Err(ReadFailed::Fault)),
-        (3, 3, Ok(3)),
-        (0, 2, Ok(0)),
-        (FILE_LIMIT, 3, Ok(FILE_LIMIT)),
-        (FILE_LIMIT + 1, 2, Err(ReadFailed::TooLong)),
-    ];
-    let alloc = rt.alloc();
-    let mut into = vec![in alloc; 0; FILE_LIMIT + 1]?;
-    for (length, failing, want) in rows {
-        let mut files = Vec::new(alloc);
-        files.push(("a".to_string(alloc)?, vec![in alloc; 7; length]?))?;
-        let mut shelf = MemoryShelf::new(files, [failing].to_vec(alloc)?);
-        assert_eq!(rt; into.len(), FILE_LIMIT + 1);
-        let answer = read_whole(&mut shelf, "a", into.as_mut_slice());
-        assert_eq!(rt; answer, want, "{length} {failing}");
-        if let Ok(count) = answer {
-            assert!(rt; into.iter().take(count).all(|byte| *byte == 7));
-        }
+    for row in &READS {
+        assert!(rt; reads(rt.alloc(), row)?, "{row:?}");
     }
     Ok(())
+}
+
+/// The room of a sink, the bytes after which it fails, a text, whether it is taken whole, and the
+/// bytes that were written then.
+type WriteRow = (usize, Option<u64>, &'static str, bool, &'static str);
+
+const WRITES: [WriteRow; 6] = [
+    (8, None, "abcdef", true, "abcdef"),
+    (6, None, "abcdef", true, "abcdef"),
+    (5, None, "abcdef", false, "abcde"),
+    (8, Some(4), "abcdef", false, "abcd"),
+    (8, Some(0), "a", false, ""),
+    (0, Some(0), "", true, ""),
+];
+
+/// Whether `write_whole` ends as the row says.
+fn writes(alloc: Global, row: &WriteRow) -> Result<bool, OutOfMemory> {
+    let mut sink = MemorySink::new(alloc, row.0, row.1)?;
+    let answer = write_whole(&mut sink, row.2.as_bytes());
+    Ok(answer.is_ok() == row.3 && sink.written() == row.4.as_bytes())
 }
 
 #[test]
 fn writes_whole_texts(rt: HostRuntime) -> Result<(), Fail> {
-    let rows = [
-        (8, None, "abcdef", true, "abcdef"),
-        (6, None, "abcdef", true, "abcdef"),
-        (5, None, "abcdef", false, "abcde"),
-        (8, Some(4), "abcdef", false, "abcd"),
-        (8, Some(0), "a", false, ""),
-        (0, Some(0), "", true, ""),
-    ];
-    for (room, fail_after, text, is_ok, want) in rows {
-        let mut sink = MemorySink::new(rt.alloc(), room, fail_after)?;
-        let answer = write_whole(&mut sink, text.as_bytes());
-        assert_eq!(rt; answer.is_ok(), is_ok, "{room} {fail_after:?} {text}");
-        assert_eq!(rt;
-            sink.written(),
-            want.as_bytes(),
-            "{room} {fail_after:?} {text}"
-        );
+    for row in &WRITES {
+        assert!(rt; writes(rt.alloc(), row)?, "{row:?}");
     }
     Ok(())
 }
 
-#[test]
-fn writes_in_pieces(rt: HostRuntime) -> Result<(), Fail> {
-    let mut sink = MemorySink::new(rt.alloc(), 5, None)?;
-    assert_eq!(rt; sink.write(b"abc"), Ok(3));
-    assert_eq!(rt; sink.write(b""), Ok(0));
-    assert_eq!(rt; sink.write(b"def"), Ok(2));
-    assert_eq!(rt; sink.write(b"f"), Err(SinkFailed));
-    assert_eq!(rt; sink.written(), b"abcde".as_slice());
-    Ok(())
-}
+const TRAPS: [Trap; 12] = [
+    Trap::DivideByZero,
+    Trap::DivideOverflow,
+    Trap::AddressRange,
+    Trap::ConstantWrite,
+    Trap::UnsetRegister,
+    Trap::Unreachable,
+    Trap::Abort,
+    Trap::DepthFull,
+    Trap::RegistersFull,
+    Trap::MemoryFull,
+    Trap::OutputFull,
+    Trap::PortRefused,
+];
 
 #[test]
 fn numbers_traps(rt: HostRuntime) {
-    let rows = [
-        (Trap::DivideByZero, 1),
-        (Trap::DivideOverflow, 2),
-        (Trap::AddressRange, 3),
-        (Trap::ConstantWrite, 4),
-        (Trap::UnsetRegister, 5),
-        (Trap::Unreachable, 6),
-        (Trap::Abort, 7),
-        (Trap::DepthFull, 8),
-        (Trap::RegistersFull, 9),
-        (Trap::MemoryFull, 10),
-        (Trap::OutputFull, 11),
-        (Trap::PortRefused, 12),
-    ];
-    for (trap, want) in rows {
-        assert_eq!(rt; trap.number(), want, "{trap:?}");
+    for (number, trap) in (1..).zip(&TRAPS) {
+        assert_eq!(rt; trap.number(), number, "{trap:?}");
     }
 }

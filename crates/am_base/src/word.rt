@@ -1,3 +1,5 @@
+//! Words of 1 to 64 bits and the operations on them.
+
 ghost use Rattle.std.specs.Prelude.{◌≡◌, ◌<◌, ◌≤◌, ◌%◌, ◌^◌, ◌-◌, ◌*◌, ◌/◌, ◌&&◌, ◌==◌};
 ghost use Rattle.std.specs.Int.RustNames.{int_div, int_rem};
 ghost use Rattle.am_base.specs.Word.{IsWord, bits_of, signed, word_of, compare_of, convert_of, binary_of, divided, division_trap, unless_trap, floor_div};
@@ -6,10 +8,11 @@ use crate::outcome::Trap;
 
 // Widths and operations.
 
-/// How many bits a word has. A word of a width is a number from 0 to 2 to the width, less 1. Its signed value is the word itself below
-/// half of that range, and else the word less 2 to the width: two's complement, as in the LLVM Language Reference, "Integer Type". An
-/// address is a word of width 64.
-#[derive(Clone, Copy, Debug, PartialEq, Eq)]
+/// How many bits a word has. A word of a width is a number from 0 to 2 to the width, less 1. Its
+/// signed value is the word itself below half of that range, and else the word less 2 to the width:
+/// two's complement, as in the LLVM Language Reference, "Integer Type". An address is a word of
+/// width 64.
+#[derive(Clone, Copy, Debug, PartialEq, Eq, Hash)]
 pub enum Width {
     W1,
     W8,
@@ -18,8 +21,9 @@ pub enum Width {
     W64,
 }
 
-/// An operation on two words of one width. LLVM Language Reference, "Binary Operations" and "Bitwise Binary Operations".
-#[derive(Clone, Copy, Debug, PartialEq, Eq)]
+/// An operation on two words of one width. LLVM Language Reference, "Binary Operations" and
+/// "Bitwise Binary Operations".
+#[derive(Clone, Copy, Debug, PartialEq, Eq, Hash)]
 pub enum BinOp {
     /// The sum, modulo 2 to the width.
     Add,
@@ -39,16 +43,17 @@ pub enum BinOp {
     Shl,
     /// The first word by 2 to the second, rounded down: 0 from the width on.
     LShr,
-    /// The signed value of the first word by 2 to the second, rounded down: 0 or -1 from the width on.
+    /// The signed value of the first word by 2 to the second, rounded down: 0 or -1 from the width
+    /// on.
     AShr,
     And,
     Or,
     Xor,
 }
 
-/// A comparison of two words of one width: `U..` compares the words, `S..` their signed values. LLVM Language Reference, "icmp
-/// Instruction".
-#[derive(Clone, Copy, Debug, PartialEq, Eq)]
+/// A comparison of two words of one width: `U..` compares the words, `S..` their signed values.
+/// LLVM Language Reference, "icmp Instruction".
+#[derive(Clone, Copy, Debug, PartialEq, Eq, Hash)]
 pub enum Pred {
     Eq,
     Ne,
@@ -63,7 +68,7 @@ pub enum Pred {
 }
 
 /// A conversion of a word to another width. LLVM Language Reference, "Conversion Operations".
-#[derive(Clone, Copy, Debug, PartialEq, Eq)]
+#[derive(Clone, Copy, Debug, PartialEq, Eq, Hash)]
 pub enum Cast {
     /// The word modulo 2 to the new width.
     Trunc,
@@ -162,7 +167,8 @@ pub fn compare(p: Pred, w: Width, a: u64, b: u64) -> bool
     }
 }
 
-/// Converts a word of the first width to the second. It refuses nothing. The result of `ZExt` and `IntToPtr` is a word of the new width where that is no narrower than the old.
+/// Converts a word of the first width to the second. It refuses nothing. The result of `ZExt` and
+/// `IntToPtr` is a word of the new width where that is no narrower than the old.
 pub fn convert(c: Cast, from: Width, to: Width, a: u64) -> u64
     requires { IsWord from a }
     ensures { result ≡ convert_of c from to a }
@@ -174,9 +180,10 @@ pub fn convert(c: Cast, from: Width, to: Width, a: u64) -> u64
     }
 }
 
-// Shifts. The LLVM Language Reference leaves a shift by the width or more undefined; here it is what the formula gives.
+// Shifts. The LLVM Language Reference leaves a shift by the width or more undefined; here it is
+// what the formula gives.
 
-/// The word times a power of two.
+/// Returns the word times `2^b`, modulo `2^w`.
 #[tactic(auto, using(crate::proofs::Words::shifted_out))]
 fn shift_left(w: Width, a: u64, b: u64) -> u64
     ensures { result ≡ (a * 2 ^ b) % 2 ^ bits_of w }
@@ -184,7 +191,7 @@ fn shift_left(w: Width, a: u64, b: u64) -> u64
     if b < 64 { wrap(w, a << b) } else { 0 }
 }
 
-/// The word by a power of two, rounded down.
+/// Returns the word divided by `2^b`, rounded down.
 #[tactic(auto, using(crate::proofs::Words::shifted_down))]
 fn shift_right(a: u64, b: u64) -> u64
     ensures { result ≡ a / 2 ^ b }
@@ -192,7 +199,7 @@ fn shift_right(a: u64, b: u64) -> u64
     if b < 64 { a >> b } else { 0 }
 }
 
-/// A signed value by a power of two, rounded down.
+/// Returns the signed value divided by `2^b`, rounded down.
 #[tactic(auto, using(crate::proofs::Words::floor_far))]
 fn floor_shift(z: i64, b: u64) -> i64
     ensures { result ≡ floor_div z (2 ^ b) }
@@ -206,7 +213,7 @@ fn floor_shift(z: i64, b: u64) -> i64
     }
 }
 
-/// The word of the signed value by a power of two.
+/// Returns the word of the signed value divided by `2^b`, rounded down.
 fn shift_signed(w: Width, a: u64, b: u64) -> u64
     requires { IsWord w a }
     ensures { result ≡ word_of w (floor_div (signed w a) (2 ^ b)) }
@@ -214,7 +221,8 @@ fn shift_signed(w: Width, a: u64, b: u64) -> u64
     from_signed(w, floor_shift(to_signed(w, a), b))
 }
 
-// Divisions. What the LLVM Language Reference leaves undefined is a trap here; the traps are this project's own.
+// Divisions. What the LLVM Language Reference leaves undefined is a trap here; the traps are this
+// project's own.
 
 /// The quotient of two words.
 fn divide(a: u64, b: u64) -> Result<u64, Trap>
@@ -293,8 +301,9 @@ fn remainder_signed(w: Width, a: u64, b: u64) -> Result<u64, Trap>
     }
 }
 
-/// Answers the word of an operation on two words. It refuses a division or remainder by zero as `DivideByZero`, and the signed division
-/// and remainder of the least value by -1 as `DivideOverflow`, and nothing else.
+/// Answers the word of an operation on two words. It refuses a division or remainder by zero as
+/// `DivideByZero`, and the signed division and remainder of the least value by -1 as
+/// `DivideOverflow`, and nothing else.
 pub fn binary(op: BinOp, w: Width, a: u64, b: u64) -> Result<u64, Trap>
     requires left { IsWord w a }
     requires right { IsWord w b }

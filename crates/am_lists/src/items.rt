@@ -1,3 +1,5 @@
+//! The list type `Items`.
+
 ghost use Rattle.std.specs.Prelude.{◌≡◌, ◌<◌, ◌↔◌, [], ◌∷◌, ◌++◌, length, slice_get, slice_set, remove, IsTrue, IfOk, MatchOption, OnOk, OnErr};
 ghost use Rattle.std.specs.Option.{option_copied};
 ghost use Rattle.std.specs.Cmp.Lexicographic.{pointwise, lists_per, lists_equiv};
@@ -8,8 +10,9 @@ use std::alloc::{AllocError, Global};
 use std::hash::{Hash, Hasher};
 use std::marker::Model;
 
-/// A `Vec` that contracts see as the list of its elements, so that two lists of equal elements are equal whatever room they have. Like a `Vec` it
-/// keeps the allocator that it was made with, and a call that takes memory is refused only for want of it.
+/// A `Vec` that contracts see as the list of its elements, so that two lists of equal elements are
+/// equal whatever room they have. Like a `Vec` it keeps the allocator that it was made with, and a
+/// call that takes memory is refused only for want of it.
 #[derive(Debug, Drop)]
 pub struct Items<T> {
     items: Vec<T>,
@@ -30,7 +33,7 @@ impl<T> Model for Items<T> {
 }
 
 impl<T> Items<T> {
-    /// A list without elements. It takes no memory.
+    /// Returns the empty list. It takes no memory.
     pub fn new(alloc: Global) -> Items<T>
         ensures { result ≡ [] }
     {
@@ -39,14 +42,14 @@ impl<T> Items<T> {
         }
     }
 
-    /// The list of a vector's elements. It takes no memory.
+    /// Returns the list of a vector's elements. It takes no memory.
     pub fn from_vec(items: Vec<T>) -> Items<T>
         ensures { result ≡ items.items }
     {
         Items { items }
     }
 
-    /// Gives the vector back. It takes no memory.
+    /// Returns the vector. It takes no memory.
     pub fn into_vec(self) -> Vec<T>
         ensures { result.items ≡ self }
     {
@@ -61,7 +64,7 @@ impl<T> Items<T> {
         self.items.as_slice()
     }
 
-    /// How many elements there are.
+    /// Returns the number of elements.
     pub fn len(&self) -> usize
         ensures { result ≡ length self.now }
     {
@@ -75,14 +78,14 @@ impl<T> Items<T> {
         self.items.is_empty()
     }
 
-    /// The element at an index from 0, or nothing past the end.
+    /// Returns the element at index `at`, counted from 0; `None` iff there is none. O(1).
     pub fn get(&self, at: usize) -> Option<&T>
         ensures { option_copied result ≡ slice_get self.now at }
     {
         self.items.get(at)
     }
 
-    /// Takes the last element off, where there is one.
+    /// Removes the last element and returns it; `None` iff the list is empty.
     pub fn pop(&mut self) -> Option<T>
         ensures { MatchOption result ((self.old ≡ []) × (self.new ≡ [])) (λ last. self.old ≡ self.new ++ last ∷ []) }
     {
@@ -91,7 +94,7 @@ impl<T> Items<T> {
 }
 
 impl<T: Drop> Items<T> {
-    /// Puts an element at the end. A refusal leaves the list as it was.
+    /// Appends an element. After an error the list is as it was.
     pub fn push(&mut self, item: T) -> Result<(), AllocError>
         ensures ok { OnOk result (self.new ≡ self.old ++ item ∷ []) }
         ensures err { OnErr result (self.new ≡ self.old) }
@@ -100,7 +103,7 @@ impl<T: Drop> Items<T> {
         Ok(())
     }
 
-    /// Puts another element at an index from 0.
+    /// Replaces the element at index `at`, counted from 0.
     pub fn set(&mut self, at: usize, item: T)
         requires { at < length self.old }
         ensures { self.new ≡ slice_set self.old at item }
@@ -108,7 +111,7 @@ impl<T: Drop> Items<T> {
         self.items[at] = item;
     }
 
-    /// Takes the element at an index out; those behind it move up.
+    /// Removes the element at index `at` and returns it; the elements behind it move up by one.
     pub fn remove(&mut self, at: usize) -> T
         requires { at < length self.old }
         ensures item { slice_get self.old at ≡ Some result }
@@ -117,7 +120,7 @@ impl<T: Drop> Items<T> {
         self.items.remove(at)
     }
 
-    /// Moves the elements of `more` to the end. A refusal leaves the list as it was, and `more` is gone.
+    /// Appends the elements of `more`. After an error the list is as it was, and `more` is gone.
     pub fn append(&mut self, more: Items<T>) -> Result<(), AllocError>
         ensures ok { OnOk result (self.new ≡ self.old ++ more) }
         ensures err { OnErr result (self.new ≡ self.old) }
@@ -128,7 +131,7 @@ impl<T: Drop> Items<T> {
 }
 
 impl<T: Copy> Items<T> {
-    /// A list of the elements of a slice.
+    /// Returns a list of the elements of a slice.
     pub fn from_slice(alloc: Global, items: &[T]) -> Result<Items<T>, AllocError>
         ensures { IfOk result (λ list. list ≡ items.now) }
     {
@@ -137,14 +140,14 @@ impl<T: Copy> Items<T> {
         })
     }
 
-    /// An equal list.
+    /// Returns an equal list.
     pub fn copy(&self, alloc: Global) -> Result<Items<T>, AllocError>
         ensures { IfOk result (λ list. list ≡ self.now) }
     {
         Items::from_slice(alloc, self.as_slice())
     }
 
-    /// Puts the elements of a slice at the end. A refusal leaves the list as it was.
+    /// Appends the elements of a slice. After an error the list is as it was.
     pub fn extend(&mut self, items: &[T]) -> Result<(), AllocError>
         ensures ok { OnOk result (self.new ≡ self.old ++ items.now) }
         ensures err { OnErr result (self.new ≡ self.old) }
