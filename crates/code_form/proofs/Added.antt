@@ -1,4 +1,4 @@
--- A replacement added at a place: what it does to the sites, and that the table stays as its invariant says.
+-- A replacement added at a place: what it does to the places, and that the table stays as its invariant says.
 use Rattle.std.proofs.Common.{◌≡◌, ◌≢◌, ◌⊎◌, ◌↔◌, inl, inr, ℕ, zero, suc, ◌<◌, ◌≤◌, List, [], ◌∷◌, length, get_or, set, Option, Some, None, Result, Ok, Err, refl, sym, ap, subst, ◌∙◌, arith, slice_get, unwrap_or, IfOk, OnErr, length-append, length-set}
 use mathlib.Core.Logic.{⊎_elim}
 use Rattle.std.specs.List.{Contains}
@@ -6,51 +6,51 @@ use Rattle.std.proofs.lemmas.Bool.{cases_eq}
 use Rattle.std.proofs.lemmas.Bool.Decides.{nat_tests}
 use Rattle.code_form.specs.declared.instr.Instr.{Instr}
 use Rattle.code_form.specs.declared.code.Code.{Code}
-use Rattle.code_form.specs.declared.site.Site.{Site}
+use Rattle.code_form.specs.declared.replacements.Replacements.{Replacements}
 use Rattle.code_form.specs.Places.{instr_at}
 use Rattle.code_form.specs.Variant.{number_at, Table, mutants_of, chosen_by, replacements_at, IsNumbered, same, known, fresh, AreDifferent, IsRising, Adds}
 use Rattle.code_form.specs.Fit.{FitsPlace, FitsTable}
-use Rattle.code_form.specs.Sites.{replacements_in, mutants_in, table_of, IsFiled, IsAdded, AreSame}
+use Rattle.code_form.specs.Replacements.{replacements_in, mutants_in, table_of, IsFiled, IsAdded, AreSame}
 use Rattle.code_form.proofs.Lists.{at-push}
 use Rattle.code_form.proofs.Tables.{replacements-at, mutants-at, mentioned-set, replacements-set, mutants-set, replacements-set-other, mutants-set-other}
 
-pub replacements-same : (old new : List Site) (at : ℕ) → AreSame old new → replacements_in new at ≡ replacements_in old at
+pub replacements-same : (old new : List Replacements) (at : ℕ) → AreSame old new → replacements_in new at ≡ replacements_in old at
 replacements-same old new at s = ap (λ (ls : List (List Instr)). unwrap_or (slice_get ls at) []) s.mentioned
 
--- ---- one site among the sites
+-- ---- one place among the others
 
-module _ (old mid : List Site) (at : ℕ) (s : Site) (room : AreSame old mid) (l : at < length mid) (is : s ≡ get_or mid at s) where
-  pub replacements-before : replacements_in old at ≡ s.replacements
-  replacements-before = sym (replacements-same old mid at room) ∙ replacements-at mid at s l ∙ sym (ap (λ (t : Site). t.replacements) is)
+module _ (old mid : List Replacements) (at : ℕ) (s : Replacements) (room : AreSame old mid) (l : at < length mid) (is : s ≡ get_or mid at s) where
+  pub replacements-before : replacements_in old at ≡ s.instrs.keys
+  replacements-before = sym (replacements-same old mid at room) ∙ replacements-at mid at s l ∙ sym (ap (λ (t : Replacements). t.instrs.keys) is)
 
   pub mutants-before : mutants_in old at ≡ s.mutants.items
-  mutants-before = sym (room.mutants at) ∙ mutants-at mid at s l ∙ sym (ap (λ (t : Site). t.mutants.items) is)
+  mutants-before = sym (room.mutants at) ∙ mutants-at mid at s l ∙ sym (ap (λ (t : Replacements). t.mutants.items) is)
 
-  mutants-same : (t : Site) → t.mutants.items ≡ s.mutants.items → (q : ℕ) → mutants_in (set mid at t) q ≡ mutants_in old q
+  mutants-same : (t : Replacements) → t.mutants.items ≡ s.mutants.items → (q : ℕ) → mutants_in (set mid at t) q ≡ mutants_in old q
   mutants-same t e q =
       ⊎_elim
       (λ i. rw i (mutants-set mid at t l ∙ e ∙ sym mutants-before))
       (λ n. mutants-set-other mid at q t n ∙ room.mutants q)
       (cases_eq q at)
 
-  pub same-site : {E : Type 0} (r : Result ℕ E) (t : Site) → OnErr r ((t.replacements ≡ s.replacements) × (t.mutants.items ≡ s.mutants.items)) → OnErr r (AreSame old (set mid at t))
-  same-site (Ok n) t h = tt
-  same-site (Err e) t h = record {
-    mentioned = mentioned-set mid at t s l (h.0 ∙ ap (λ (t : Site). t.replacements) is) ∙ room.mentioned;
+  pub same-place : {E : Type 0} (r : Result ℕ E) (t : Replacements) → OnErr r ((t.instrs.keys ≡ s.instrs.keys) × (t.mutants.items ≡ s.mutants.items)) → OnErr r (AreSame old (set mid at t))
+  same-place (Ok n) t h = tt
+  same-place (Err e) t h = record {
+    mentioned = mentioned-set mid at t s l (h.0 ∙ ap (λ (t : Replacements). t.instrs.keys) is) ∙ room.mentioned;
     mutants = mutants-same t h.1;
   }
 
-  pub added-site : {E : Type 0} (r : Result ℕ E) (t : Site) (original : Instr) (m : ℕ) (with : Instr) → IfOk r (λ n. IsNumbered original s.replacements with n t.replacements)
-      → IfOk r (λ n. n ≤ length t.replacements) → IfOk r (λ n. (k : ℕ) → Contains t.mutants.items k ↔ (((k ≡ m) × (0 < n)) ⊎ Contains s.mutants.items k))
-      → AreDifferent t.replacements → length t.replacements ≤ length t.mutants.items → IsRising t.mutants.items → IfOk r (λ n. IsAdded original old (set mid at t) at m with n)
-  added-site (Err e) t original m with h1 h2 h3 d o u = tt
-  added-site (Ok n) t original m with h1 h2 h3 d o u =
+  pub added-place : {E : Type 0} (r : Result ℕ E) (t : Replacements) (original : Instr) (m : ℕ) (with : Instr) → IfOk r (λ n. IsNumbered original s.instrs.keys with n t.instrs.keys)
+      → IfOk r (λ n. n ≤ length t.instrs.keys) → IfOk r (λ n. (k : ℕ) → Contains t.mutants.items k ↔ (((k ≡ m) × (0 < n)) ⊎ Contains s.mutants.items k))
+      → AreDifferent t.instrs.keys → length t.instrs.keys ≤ length t.mutants.items → IsRising t.mutants.items → IfOk r (λ n. IsAdded original old (set mid at t) at m with n)
+  added-place (Err e) t original m with h1 h2 h3 d o u = tt
+  added-place (Ok n) t original m with h1 h2 h3 d o u =
       let a = replacements-set mid at t l in
       let b = mutants-set mid at t l in
       let p = replacements-before in
       let q = mutants-before in
       record {
-        numbered = subst (λ (x : List Instr). IsNumbered original x with n (replacements_in (set mid at t) at)) (sym p) (subst (λ (y : List Instr). IsNumbered original s.replacements with n y) (sym a) h1);
+        numbered = subst (λ (x : List Instr). IsNumbered original x with n (replacements_in (set mid at t) at)) (sym p) (subst (λ (y : List Instr). IsNumbered original s.instrs.keys with n y) (sym a) h1);
         given = rw a h2;
         mutants = λ k. let f = h3 k in (
           λ x. ⊎_elim inl (λ y. inr (subst (λ (z : List ℕ). Contains z k) (sym q) y)) (f.0 (subst (λ (z : List ℕ). Contains z k) b x)),
@@ -87,7 +87,7 @@ longer (same e) = omega arith
 longer (known k ne e) = omega arith
 longer {with = w} {before = b} (fresh ne absent) = omega (arith, length-append b (w ∷ []))
 
-pub filed-same : (choices : List (Option (ℕ × ℕ))) (old new : List Site) → AreSame old new → IsFiled choices old → IsFiled choices new
+pub filed-same : (choices : List (Option (ℕ × ℕ))) (old new : List Replacements) → AreSame old new → IsFiled choices old → IsFiled choices new
 filed-same choices old new s f = record {
   some = f.some;
   few = f.few;
@@ -105,7 +105,7 @@ number-at-same at n = grind (arith, nat_tests)
 number-at-other : (at n q : ℕ) → q ≢ at → number_at (Some (at, n)) q ≡ 0
 number-at-other at n q ne = grind (arith, nat_tests)
 
-module _ (choices : List (Option (ℕ × ℕ))) (old new : List Site) (original : Instr) (at m : ℕ) (with : Instr) (number : ℕ) (f : IsFiled choices old) (a : IsAdded original old new at m with number)
+module _ (choices : List (Option (ℕ × ℕ))) (old new : List Replacements) (original : Instr) (at m : ℕ) (with : Instr) (number : ℕ) (f : IsFiled choices old) (a : IsAdded original old new at m with number)
     (unchosen : unwrap_or (slice_get choices m) None ≡ None) (l : m < length choices) where
   before : ℕ → ℕ → ℕ
   before n q = number_at (unwrap_or (slice_get choices n) None) q

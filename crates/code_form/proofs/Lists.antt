@@ -1,13 +1,16 @@
 -- Lists without repeats, and rising lists into which one more goes.
-use Rattle.std.proofs.Common.{◌≡◌, ◌≢◌, ◌⊎◌, ◌↔◌, inl, inr, ℕ, zero, suc, ◌+◌, ◌-◌, ◌<◌, ◌≤◌, List, [], ◌∷◌, ◌++◌, length, get_or, Some, refl, sym, ap, ◌∙◌, arith, slice_get, length-append}
+use Rattle.std.proofs.Common.{◌≡◌, ◌≢◌, ◌⊎◌, ◌↔◌, inl, inr, Bool, true, false, ◌||◌, true≢false, if◌then◌else◌, ℕ, zero, suc, ◌+◌, ◌-◌, ◌<◌, ◌≤◌, List, [], ◌∷◌, ◌++◌, length, get_or, Some, refl, sym, ap, ◌∙◌, arith, slice_get, length-append}
 use mathlib.Core.Logic.{⊎_elim}
-use Rattle.std.specs.List.{insert, Contains}
+use Rattle.std.specs.List.{insert, list_any, Contains}
+use Rattle.std.proofs.lemmas.Option.{slice_get_within}
+use Rattle.indexmap.specs.IndexSet.{insert_key}
+use Rattle.code_form.proofs.InstrEqual.{instr_eq, instr_same, equal_instrs}
 use Rattle.std.proofs.lemmas.Bool.{cases_lt}
 use Rattle.std.proofs.lemmas.Grind.{in_insert}
 use Rattle.std.proofs.lemmas.List.{get_or_default}
 use Rattle.std.proofs.lemmas.List.Edits.{length-insert, get_or-insert_below, get_or-insert_at, get_or-insert_above}
 use Rattle.code_form.specs.declared.instr.Instr.{Instr}
-use Rattle.code_form.specs.Variant.{AreDifferent, IsRising, IsNumbered, fresh}
+use Rattle.code_form.specs.Variant.{AreDifferent, IsRising, IsNumbered, same, known, fresh}
 
 -- ---- one more at the end
 
@@ -30,6 +33,57 @@ pub fresh-push : (original : Instr) (before : List Instr) (with : Instr) (number
 fresh-push original before with number after e n ne absent =
     let m : number ≡ length before + 1 = n ∙ ap length e ∙ length-append before (with ∷ []) in
     rw (m, e) (fresh ne absent)
+
+-- ---- the number of a replacement
+
+or_right : (x y : Bool) → y ≡ true → (x || y) ≡ true
+or_right true y h = refl
+or_right false y h = h
+
+known_any : (is : List Instr) (i : Instr) (k : ℕ) → slice_get is k ≡ Some i → list_any (instr_eq i) is ≡ true
+known_any [] i k e = cc
+known_any (x ∷ xs) i zero e = let same : i ≡ x = cc in ap (λ b. b || list_any (instr_eq i) xs) (equal_instrs i x same)
+known_any (x ∷ xs) i (suc k) e = or_right (instr_eq i x) (list_any (instr_eq i) xs) (known_any xs i k e)
+
+-- what a set of instructions answers to one that it is given
+pub numbered_insert : (original : Instr) (before after : List Instr) (with k : Instr) (at : ℕ) → with ≢ original → after ≡ insert_key instr_eq before with → slice_get after at ≡ Some k
+    → instr_eq with k ≡ true → IsNumbered original before with (at + 1) after
+numbered_insert original before after with k at ne is e h = by (list_any (instr_eq with) before) refl
+  where
+    found : slice_get after at ≡ Some with
+    found = e ∙ ap Some (sym (instr_same with k h))
+
+    by : (b : Bool) → list_any (instr_eq with) before ≡ b → IsNumbered original before with (at + 1) after
+    by true p =
+        let stays : after ≡ before = is ∙ ap (λ b. if b then before else before ++ with ∷ []) p in
+        rw stays (known at ne (sym (ap (λ l. slice_get l at) stays) ∙ found))
+    by false p =
+        let grows : after ≡ before ++ with ∷ [] = is ∙ ap (λ b. if b then before else before ++ with ∷ []) p in
+        let absent = λ (j : ℕ) (f : slice_get before j ≡ Some with). true≢false (sym (known_any before with j f) ∙ p) in
+        ⊎_elim
+        (λ f. absurd (absent at f))
+        (λ f. fresh-push original before with (at + 1) after grows (let h = length-append before (with ∷ []) in omega (arith, f.0, ap length grows)) ne absent)
+        (at-push before with at with (sym (ap (λ l. slice_get l at) grows) ∙ found))
+
+pub different_numbered : {original with : Instr} {before after : List Instr} {n : ℕ} → IsNumbered original before with n after → AreDifferent before → AreDifferent after
+different_numbered (same e) d = d
+different_numbered (known k ne e) d = d
+different_numbered {with = w} {before = is} (fresh ne absent) d = different-push is w d absent
+
+pub given_numbered : {original with : Instr} {before after : List Instr} {n : ℕ} → IsNumbered original before with n after → n ≤ length after
+given_numbered (same e) = omega arith
+given_numbered {with = w} {before = is} (known k ne e) = let h = slice_get_within is k w e in omega arith
+given_numbered {with = w} {before = is} (fresh ne absent) = let h = length-append is (w ∷ []) in omega arith
+
+pub longer_numbered : {original with : Instr} {before after : List Instr} {n : ℕ} → IsNumbered original before with n after → length after ≤ length before + 1
+longer_numbered (same e) = omega arith
+longer_numbered (known k ne e) = omega arith
+longer_numbered {with = w} {before = is} (fresh ne absent) = let h = length-append is (w ∷ []) in omega arith
+
+pub zero_numbered : {original with : Instr} {before after : List Instr} {n : ℕ} → IsNumbered original before with n after → n ≡ 0 → after ≡ before
+zero_numbered (same e) z = refl
+zero_numbered (known k ne e) z = refl
+zero_numbered (fresh ne absent) z = absurd (omega arith)
 
 -- ---- one more in its place
 

@@ -1,6 +1,7 @@
 -- When a replacement fits its place, a table of replacements its code, and a case its code.
 use Rattle.std.specs.Prelude.{◌≡◌, ℕ, ◌<◌, ◌≤◌, false, List, [], ◌∷◌, length, Some, slice_get, slice_set, Contains}
 use Rattle.am_base.specs.Word.{IsWord}
+use Rattle.am_base.specs.declared.limits.TheConstants.{MAX_INPUT_BYTES, MAX_BUDGET}
 use Rattle.code_form.specs.declared.instr.Instr.{Instr}
 use Rattle.code_form.specs.declared.code.TyScalar.{TyScalar}
 use Rattle.code_form.specs.declared.code.TyScalar.TheVariants.{Int, Ptr}
@@ -38,6 +39,6 @@ AreArguments (Int w ∷ ts) (n ∷ more) = IsWord w n × AreArguments ts more
 pub record FitsCase (code : Code) (case : Case) : Type 0 where
   pub defined : case.function < length code.funcs
   pub args : AreArguments (function_at code case.function).params case.args
-  pub input : length case.input ≤ 65536
+  pub input : length case.input ≤ MAX_INPUT_BYTES
   pub some : 1 ≤ case.budget
-  pub few : case.budget ≤ 10000000
+  pub few : case.budget ≤ MAX_BUDGET

@@ -5,6 +5,7 @@ use Rattle.am_base.specs.declared.word.Width.TheVariants.{W1, W32, W64}
 use Rattle.am_base.specs.declared.word.Cast.{Cast as Conversion}
 use Rattle.am_base.specs.declared.word.Cast.TheVariants.{Trunc, ZExt, SExt, PtrToInt, IntToPtr}
 use Rattle.am_base.specs.Word.{IsWord, bits_of}
+use Rattle.am_base.specs.declared.limits.TheConstants.{MAX_FUNCTIONS, MAX_INSTRUCTIONS, MAX_FUNCTION_REGISTERS, MAX_TYPE_BYTES, MEMORY_BYTES, FIRST_ADDRESS}
 use Rattle.code_form.specs.declared.instr.Operand.{Operand}
 use Rattle.code_form.specs.declared.instr.Operand.TheVariants.{Reg, Word}
 use Rattle.code_form.specs.declared.instr.Callee.{Callee}
@@ -98,7 +99,7 @@ InstrFits code f r (Cmp p w a b) = HasWidth f.types w a × HasWidth f.types w b 
 InstrFits code f r (Select c a b) = HasType f.types (Int W1) c × ((t : TyScalar) × HasType f.types t a × HasType f.types t b × Gives f.types r t)
 InstrFits code f r (Cast c from to a) = CastFits f.types r c from to a
 InstrFits code f r (Freeze a) = (t : TyScalar) × HasType f.types t a × Gives f.types r t
-InstrFits code f r (Alloca size align count) = (size ≤ 2 ^ 20) × IsAlignment align × IsInteger f.types count × Gives f.types r Ptr
+InstrFits code f r (Alloca size align count) = (size ≤ MAX_TYPE_BYTES) × IsAlignment align × IsInteger f.types count × Gives f.types r Ptr
 InstrFits code f r (Load w a) = HasType f.types Ptr a × GivesWidth f.types r w
 InstrFits code f r (Store w a b) = HasWidth f.types w a × HasType f.types Ptr b × (r ≡ None)
 InstrFits code f r (Get a literal indices) = HasType f.types Ptr a × (literal < 2 ^ 64) × All (λ i. (i.0 < 2 ^ 64) × HasType f.types (Int i.1) i.2) indices × Gives f.types r Ptr
@@ -141,7 +142,7 @@ pub record IsPlaceOf (f : Func) (at : ℕ) : Type 0 where
 -- a function of the code: its registers are its parameters and the results of its instructions, each once
 pub record IsSoundFunc (code : Code) (f : Func) : Type 0 where
   pub some : 0 < length f.blocks
-  pub few : f.registers ≤ 32768
+  pub few : f.registers ≤ MAX_FUNCTION_REGISTERS
   pub typed : length f.types ≡ f.registers
   pub params : take (length f.params) f.types ≡ f.params
   pub blocks : (b : ℕ) (block : Block) → slice_get f.blocks b ≡ Some block → IsSoundBlock code f b block
@@ -154,12 +155,12 @@ AreLaid from [] to = from ≡ to
 AreLaid from (b ∷ rest) to = (b.first ≡ from) × AreLaid (from + b.len) rest to
 
 pub record IsSound (code : Code) : Type 0 where
-  pub few_funcs : length code.funcs ≤ 1024
-  pub few_instrs : length code.instrs ≤ 65536
+  pub few_funcs : length code.funcs ≤ MAX_FUNCTIONS
+  pub few_instrs : length code.instrs ≤ MAX_INSTRUCTIONS
   pub results : length code.results ≡ length code.instrs
   pub memory : length code.memory ≡ code.stack_base
-  pub base : code.stack_base ≤ 2 ^ 20
-  pub constants_from : 1024 ≤ code.const_end
+  pub base : code.stack_base ≤ MEMORY_BYTES
+  pub constants_from : FIRST_ADDRESS ≤ code.const_end
   pub constants_to : code.const_end ≤ code.stack_base
   pub names : (g h : ℕ) (e f : Func) → slice_get code.funcs g ≡ Some e → slice_get code.funcs h ≡ Some f → e.name ≡ f.name → g ≡ h
   pub laid : AreLaid 0 (flat_map (λ (f : Func). f.blocks) code.funcs) (length code.instrs)

@@ -1,6 +1,8 @@
+//! A case: one run that a test asks for.
+
 ghost use Rattle.std.specs.Prelude.{◌≡◌, ◌≤◌, IfOk};
 
-use am_base::OutOfMemory;
+use am_base::{MAX_BUDGET, OutOfMemory};
 use am_lists::{Bytes, Items};
 use std::alloc::Global;
 
@@ -11,17 +13,18 @@ pub struct Case {
     pub function: u32,
     /// One word for each of its parameters, of the parameter's width.
     pub args: Items<u64>,
-    /// The bytes that `getchar` gives, at most 65,536.
+    /// The bytes that `getchar` gives, at most `MAX_INPUT_BYTES`.
     pub input: Bytes,
-    /// The greatest number of steps, from 1 to 10,000,000.
+    /// The greatest number of steps, from 1 to `MAX_BUDGET`.
     pub budget: u64,
 }
 
 impl Case {
-    /// A case with this budget, from 1 to 10,000,000 steps, and with its other fields equal. It is refused only for want of memory.
+    /// Returns a case with this budget, from 1 to `MAX_BUDGET` steps, and with its other fields
+    /// equal.
     pub fn with_budget(&self, alloc: Global, budget: u64) -> Result<Case, OutOfMemory>
         requires some { 1 ≤ budget }
-        requires few { budget ≤ 10000000 }
+        requires few { budget ≤ MAX_BUDGET }
         ensures { IfOk result (λ case. case ≡ record self.now { budget = budget }) }
     {
         Ok(Case {

@@ -1,3 +1,5 @@
+//! The code of a module: functions, blocks, instructions and the opening bytes.
+
 use crate::instr::Instr;
 use crate::sign::PortSign;
 use am_base::Width;
@@ -21,14 +23,15 @@ pub struct Block {
     pub len: u32,
 }
 
-/// A defined function. Its registers are numbered from 0: the parameters, then the instructions with a value in text order.
+/// A defined function. Its registers are numbered from 0: the parameters, then the instructions
+/// with a value in text order.
 #[derive(Debug, Drop, PartialEq, Eq)]
 pub struct Func {
     /// The bytes of the name, without `@`.
     pub name: Bytes,
     pub params: Items<TyScalar>,
     pub result: Option<TyScalar>,
-    /// How many registers there are.
+    /// The number of registers.
     pub registers: u32,
     /// The type of each register.
     pub types: Items<TyScalar>,
@@ -45,7 +48,8 @@ pub struct Code {
     pub results: Items<Option<u32>>,
     /// The opening bytes from address 0 to below `stack_base`; all later ones are 0.
     pub memory: Bytes,
-    /// The byte address where the constant globals end, which begin at address 1,024. Padding between them is constant too.
+    /// The byte address where the constant globals end, which begin at `FIRST_ADDRESS`. Padding
+    /// between them is constant too.
     pub const_end: u32,
     /// The byte address of the stack top at the start of a run.
     pub stack_base: u32,

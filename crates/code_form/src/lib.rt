@@ -1,18 +1,17 @@
-//! The code of a module with names replaced by numbers, the replacements of the mutants, and the cases that a test suite runs.
+//! The code of a module with names replaced by numbers, the replacements of the mutants, and the
+//! cases that a test suite runs.
 #![tactic(auto)]
 
 mod case;
 mod code;
 mod instr;
-mod same;
+mod replacements;
 mod sign;
-mod site;
 mod variants;
 
 pub use case::Case;
 pub use code::{Block, Code, Func, Place, TyScalar};
 pub use instr::{Callee, Instr, Operand};
-pub use same::same_instr;
 pub use sign::PortSign;
 pub use type_layout::{Ty, align_of, offset, size_of};
 pub use variants::Variants;

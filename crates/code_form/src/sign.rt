@@ -1,3 +1,5 @@
+//! The signatures of ports.
+
 ghost use Rattle.std.specs.Prelude.{◌≡◌, IfOk};
 
 use am_base::{OutOfMemory, Width};
@@ -16,7 +18,7 @@ pub struct PortSign {
 }
 
 impl PortSign {
-    /// An equal sign. It is refused only for want of memory.
+    /// Returns an equal sign.
     pub fn copy(&self, alloc: Global) -> Result<PortSign, OutOfMemory>
         ensures { IfOk result (λ sign. sign ≡ self.now) }
     {

@@ -1,22 +1,25 @@
+//! The table of the replacements of all mutants.
+
 ghost use Rattle.std.specs.Prelude.{◌≡◌, ◌≢◌, ℕ, ◌<◌, ◌≤◌, [], length, slice_get, unwrap_or, IfOk, OnOk, OnErr, Contains, ◌↔◌};
 ghost use Rattle.code_form.specs.Variant.{mutants_of, chosen_by, number_at, variant_of, replacements_at, instr_of, Adds, AreDifferent, IsRising};
 ghost use Rattle.code_form.specs.Fit.{FitsPlace, FitsTable};
-ghost use Rattle.code_form.specs.Sites.{mutants_in};
+ghost use Rattle.code_form.specs.Replacements.{mutants_in};
 
 use crate::code::{Code, Place};
 use crate::instr::Instr;
-use crate::site::{Site, add_at};
-use am_base::OutOfMemory;
+use crate::replacements::{Replacements, add_at};
+use am_base::{MAX_MUTANTS, OutOfMemory};
 use std::alloc::Global;
 use std::marker::Model;
 
-/// The replacements of the mutants: each mutant but mutant 0, the unchanged program, has at most one, at one place. Contracts see a `Table`.
-#[derive(Debug, Drop)]
+/// The replacements of the mutants: each mutant but mutant 0, the unchanged program, has at most
+/// one, at one place. Contracts see a `Table`.
+#[derive(Drop)]
 pub struct Variants {
     /// For each mutant the place of its replacement and its number there.
     chosen: Vec<Option<(u32, u32)>>,
-    /// For each place up to the last one that was mentioned what the mutants put there.
-    sites: Vec<Site>,
+    /// The replacements of each place up to the last one that was mentioned.
+    places: Vec<Replacements>,
 }
 
 impl Model for Variants {
@@ -24,41 +27,43 @@ impl Model for Variants {
 
     ghost Value = { Table };
 
-    ghost use Rattle.code_form.specs.Sites.{table_of, IsFiled};
+    ghost use Rattle.code_form.specs.Replacements.{table_of, IsFiled};
 
-    ghost view = { λ v. table_of v.chosen.items v.sites.items };
+    ghost view = { λ v. table_of v.chosen.items v.places.items };
 
-    ghost invariant = { λ v. IsFiled v.chosen.items v.sites.items };
+    ghost invariant = { λ v. IsFiled v.chosen.items v.places.items };
 }
 
 impl Variants {
-    /// That many mutants, from 1 to 65,536, mutant 0 included, without a replacement.
+    /// Returns a table of this many mutants, from 1 to `MAX_MUTANTS`, mutant 0 included, without a
+    /// replacement.
     pub fn new(alloc: Global, mutants: u32) -> Result<Variants, OutOfMemory>
         requires some { 1 ≤ mutants }
-        requires few { mutants ≤ 65536 }
+        requires few { mutants ≤ MAX_MUTANTS }
         ensures mutants { IfOk result (λ table. mutants_of table ≡ mutants) }
         ensures nothing_chosen { IfOk result (λ table. (m : ℕ) → chosen_by table m ≡ None) }
         ensures nothing_mentioned { IfOk result (λ table. (at : ℕ) → replacements_at table at ≡ []) }
     {
         Ok(Variants {
             chosen: vec![in alloc; None; mutants as usize]?,
-            sites: Vec::new(alloc),
+            places: Vec::new(alloc),
         })
     }
 
-    /// How many mutants there are, mutant 0 included.
+    /// Returns the number of mutants, mutant 0 included.
     pub fn mutants(&self) -> u32
         ensures mutants { result ≡ mutants_of self.now }
         ensures some { 1 ≤ result }
-        ensures few { result ≤ 65536 }
+        ensures few { result ≤ MAX_MUTANTS }
         ensures unchanged { chosen_by self.now 0 ≡ None }
         ensures given { (m at : ℕ) → variant_of self.now m at ≤ length (replacements_at self.now at) }
     {
         self.chosen.len() as u32
     }
 
-    /// The number of the replacement that a mutant has at a place: 0 where it has none there, and where its replacement equals the original. Equal
-    /// replacements of one place have one number, from 1 in order of first mention. It takes the same time whatever the number of mutants.
+    /// Returns the number of the replacement that mutant `m` has at a place: 0 if it has none there,
+    /// and 0 if its replacement equals the original. Equal replacements of one place have one
+    /// number, and numbers are given from 1 in order of first mention. O(1).
     pub fn variant(&self, m: u32, place: Place) -> u32
         ensures number { result ≡ variant_of self.now m place.0 }
         ensures given { result ≤ length (replacements_at self.now place.0) }
@@ -67,9 +72,10 @@ impl Variants {
         number_in(choice_of(&self.chosen, m), place.0)
     }
 
-    /// Gives a mutant from 1 on that has no replacement yet one at a place of the code. It gets number 0 where it equals the code's instruction,
-    /// the number of an equal replacement of the place where there is one, and else the next number. It is refused only for want of memory, and
-    /// then the table is as it was.
+    /// Adds a replacement, at a place of the code, of a mutant from 1 that has none yet. It gets
+    /// number 0 if it equals the code's instruction, the number of an equal replacement of the
+    /// place if there is one, and else the next number. O(1) amortized but for the hashing, where
+    /// mutants come in rising order. After an error the table is as it was.
     pub fn add(
         &mut self,
         alloc: Global,
@@ -90,20 +96,20 @@ impl Variants {
     {
         let at = place.0 as usize;
         let original = &code.instrs.as_slice()[at];
-        let number = add_at(&mut self.sites, alloc, at, original, m, with)?;
+        let number = add_at(alloc, &mut self.places, at, original, m, with)?;
         self.chosen[m as usize] = Some((place.0, number));
         Ok(())
     }
 
-    /// The mutants whose number at a place isn't 0, rising. It takes the same time whatever their number.
+    /// Returns the mutants whose number at a place isn't 0, rising. O(1).
     pub fn mutants_at(&self, place: Place) -> &[u32]
         ensures rising { IsRising result.now }
         ensures exact { (m : ℕ) → Contains result.now m ↔ (0 < variant_of self.now m place.0) }
     {
-        mutants_of_place(&self.sites, place.0 as usize)
+        mutants_of_place(&self.places, place.0 as usize)
     }
 
-    /// The instruction that a number stands for at a place of the code: for 0 the code's own.
+    /// Returns the instruction with a number at a place of the code: for 0 the code's own. O(1).
     pub fn instr<'a>(&'a self, code: &'a Code, place: Place, v: u32) -> &'a Instr
         requires within { place.0 < length code.now.instrs }
         requires given { v ≤ length (replacements_at self.now place.0) }
@@ -113,16 +119,16 @@ impl Variants {
         if v == 0 {
             return &code.instrs.as_slice()[at];
         }
-        &self.sites[at].replacements.as_slice()[v as usize - 1]
+        &self.places[at].instrs.as_slice()[v as usize - 1]
     }
 }
 
-/// The mutants that have a replacement at a place: none at a place past the last site.
-fn mutants_of_place(sites: &[Site], at: usize) -> &[u32]
-    ensures { result.now ≡ mutants_in sites.now at }
+/// The mutants that have a replacement at a place: none at a place past the last in the list.
+fn mutants_of_place(places: &[Replacements], at: usize) -> &[u32]
+    ensures { result.now ≡ mutants_in places.now at }
 {
-    match sites.get(at) {
-        Some(site) => site.mutants.as_slice(),
+    match places.get(at) {
+        Some(place) => place.mutants.as_slice(),
         None => &[],
     }
 }
@@ -151,9 +157,8 @@ fn number_in(choice: Option<(u32, u32)>, at: u32) -> u32
 mod tests {
     use super::*;
     use crate::instr::Operand;
-    use crate::same::same_instr;
     use am_base::Width;
-    use am_lists::Items;
+    use am_lists::{Items, Same};
     use std::test::Fail;
 
     /// `freeze` of a word.
@@ -228,7 +233,7 @@ mod tests {
         for (m, word) in [(0, 0), (1, 0), (2, 9), (3, 0), (4, 8), (5, 8), (6, 0)] {
             let number = table.variant(m, Place(0));
             assert!(rt;
-                same_instr(table.instr(&code, Place(0), number), &freeze(word)),
+                table.instr(&code, Place(0), number).same(&freeze(word)),
                 "of {m}"
             );
         }

@@ -1,7 +1,8 @@
 use Rattle.std.proofs.Common.{◌≡◌, ◌<◌, None, sym, subst, arith}
+use Rattle.am_base.specs.declared.limits.TheConstants.{MAX_MUTANTS}
 use Rattle.code_form.specs.Places.{instr_at}
 use Rattle.code_form.specs.Variant.{Table, chosen_by, mutants_of}
-use Rattle.code_form.specs.Sites.{mutants_in}
+use Rattle.code_form.specs.Replacements.{mutants_in}
 use Rattle.code_form.proofs.Lists.{rising_few}
 use Rattle.code_form.proofs.Added.{defined, filed-add, adds, mutants-adds, chosen-adds, fits-adds}
 use Rattle.code_form.proofs.Lookups.{read_or}
@@ -10,7 +11,7 @@ use Rattle.code_form.proofs.variants.Variants.add.Goals as goal
 pub add_at-requires-clause-few : goal.add_at-requires-clause-few
 add_at-requires-clause-few c =
     let at = c.args.place.0 in
-    rising_few (mutants_in c.self.inside.sites.items at) 65536 (c.self.invariant.rising at)
+    rising_few (mutants_in c.self.inside.places.items at) MAX_MUTANTS (c.self.invariant.rising at)
     (λ m h. let l = defined c.self.inside.chosen.items m at ((c.self.invariant.exact at m).0 h) in omega (arith, l, c.self.invariant.few))
 
 pub add_at-requires-clause-absent : goal.add_at-requires-clause-absent

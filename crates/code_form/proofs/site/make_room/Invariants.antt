@@ -1,9 +1,0 @@
-use Rattle.std.proofs.Common.{◌+◌, ◌-◌, length}
-use Rattle.code_form.specs.Sites.{AreSame}
-use Rattle.code_form.proofs.site.make_room.Given as goal
-
-abbrev pub invariant-loop-alloc : goal.invariant-loop-alloc
-invariant-loop-alloc l = AreSame l.fn.sites.items l.sites.items
-
-abbrev pub decreases-loop-alloc : goal.decreases-loop-alloc
-decreases-loop-alloc l = l.at + 1 - length l.sites.items
