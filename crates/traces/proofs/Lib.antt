@@ -13,3 +13,7 @@ pub mod Plans
 pub mod Room
 pub mod Ends
 pub mod Splits
+pub mod AllSplits
+pub mod WholeTraces
+pub mod Budgets
+pub mod Rises

@@ -19,25 +19,25 @@ use Rattle.traces.proofs.Turns.{any_from}
 
 -- what holds of each two elements of lists that follow one another
 module _ {X : Type 0} (R : X → X → Type 0) where
-  all_pairs_append : (xs ys : List X) → AllPairs R xs → AllPairs R ys → ((x y : X) → Contains xs x → Contains ys y → R x y) → AllPairs R (xs ++ ys)
+  pub all_pairs_append : (xs ys : List X) → AllPairs R xs → AllPairs R ys → ((x y : X) → Contains xs x → Contains ys y → R x y) → AllPairs R (xs ++ ys)
   all_pairs_append [] ys a b c = b
   all_pairs_append (x ∷ xs) ys a b c =
       AllPairs-cons R x (xs ++ ys)
       (All-append (R x) xs ys (λ k d l. a 0 (suc k) d (omega arith) (omega arith)) (All-weaker (Contains ys) (R x) (λ y h. c x y (contains_here x xs) h) ys (All-contains_itself ys)))
       (all_pairs_append xs ys (λ i j d h l. a (suc i) (suc j) d (omega arith) (omega arith)) b (λ u v h k. c u v (contains_there x u xs h) k))
 
-  none_paired : AllPairs R []
+  pub none_paired : AllPairs R []
   none_paired i j d h l = absurd (let k : j < 0 = l in omega arith)
 
 module _ {X Y : Type 0} (f : X → List Y) where
-  from_flat_map : (xs : List X) (y : Y) → Contains (flat_map f xs) y → (x : X) × Contains xs x × Contains (f x) y
+  pub from_flat_map : (xs : List X) (y : Y) → Contains (flat_map f xs) y → (x : X) × Contains xs x × Contains (f x) y
   from_flat_map [] y h = absurd (let l : h.0 < 0 = h.1 in omega arith)
   from_flat_map (x ∷ xs) y h = ⊎_elim
       (λ a. (x, contains_here x xs, a))
       (λ b. let r = from_flat_map xs y b in (r.0, contains_there x r.0 xs r.1, r.2))
       (Contains-append_cases (f x) (flat_map f xs) y h)
 
-  to_flat_map : (xs : List X) (x : X) (y : Y) → Contains xs x → Contains (f x) y → Contains (flat_map f xs) y
+  pub to_flat_map : (xs : List X) (x : X) (y : Y) → Contains xs x → Contains (f x) y → Contains (flat_map f xs) y
   to_flat_map [] x y h k = absurd (let l : h.0 < 0 = h.1 in omega arith)
   to_flat_map (z ∷ zs) x y h k = ⊎_elim
       (λ e. Contains-append_left (f z) (flat_map f zs) y (subst (λ a. Contains (f a) y) (sym e) k))
@@ -48,7 +48,7 @@ module _ {X Y : Type 0} (f : X → List Y) where
   length_flat g xs h = length-flat_map f xs ∙ ap (λ k. sum_by k xs) (λ i x. h x i)
 
 module _ {X : Type 0} (R : X → X → Type 0) (f : ℕ → List X) where
-  all_pairs_flat : (n : ℕ) → ((k : ℕ) → k < n → AllPairs R (f k)) → ((j k : ℕ) → j < k → k < n → (x y : X) → Contains (f j) x → Contains (f k) y → R x y)
+  pub all_pairs_flat : (n : ℕ) → ((k : ℕ) → k < n → AllPairs R (f k)) → ((j k : ℕ) → j < k → k < n → (x y : X) → Contains (f j) x → Contains (f k) y → R x y)
       → AllPairs R (flat_map f (below n))
   all_pairs_flat zero a c = none_paired R
   all_pairs_flat (suc n) a c =
@@ -59,25 +59,25 @@ module _ {X : Type 0} (R : X → X → Type 0) (f : ℕ → List X) where
       (λ x y h k. let r = from_flat_map f (below n) x h in c r.0 n (below_below n r.0 r.1) (omega arith) x y r.2 k))
 
 -- the least number that passes a test
-last_passes : (q : ℕ → Bool) (n : ℕ) → list_any q (below n) ≡ false → list_any q (below (suc n)) ≡ true → q n ≡ true
+pub last_passes : (q : ℕ → Bool) (n : ℕ) → list_any q (below n) ≡ false → list_any q (below (suc n)) ≡ true → q n ≡ true
 last_passes q n f h = on_bool (q n) (λ t. t) (λ e. absurd (false≢true (sym (list_any-append q (below n) (n ∷ []) ∙ rw f (rw e refl)) ∙ h)))
 
-least_passing : (q : ℕ → Bool) (n : ℕ) → list_any q (below n) ≡ true → (k : ℕ) × (k < n) × (q k ≡ true) × (list_any q (below k) ≡ false)
+pub least_passing : (q : ℕ → Bool) (n : ℕ) → list_any q (below n) ≡ true → (k : ℕ) × (k < n) × (q k ≡ true) × (list_any q (below k) ≡ false)
 least_passing q zero h = absurd (true≢false (sym h))
 least_passing q (suc n) h = on_bool (list_any q (below n))
     (λ t. let r = least_passing q n t in (r.0, (let l = r.1 in omega arith), r.2, r.3))
     (λ f. (n, omega arith, last_passes q n f h, f))
 
-module _ {C : Type 0} (p : List C) where
+module _ {C : Type 0} (p : C) where
   one_or_none : (b : Bool) → length (if b then p ∷ [] else []) ≡ (if b then 1 else 0)
   one_or_none true = refl
   one_or_none false = refl
 
-  in_one_or_none : (b : Bool) (x : List C) → Contains (if b then p ∷ [] else []) x → (b ≡ true) × (p ≡ x)
+  pub in_one_or_none : (b : Bool) (x : C) → Contains (if b then p ∷ [] else []) x → (b ≡ true) × (p ≡ x)
   in_one_or_none true x h = (refl, ⊎_elim (λ e. e) (λ c. absurd (let l : c.0 < 0 = c.1 in omega arith)) (contains_cases p x [] h))
   in_one_or_none false x h = absurd (let l : h.0 < 0 = h.1 in omega arith)
 
-  paired_one : (R : List C → List C → Type 0) (b : Bool) → AllPairs R (if b then p ∷ [] else [])
+  pub paired_one : (R : C → C → Type 0) (b : Bool) → AllPairs R (if b then p ∷ [] else [])
   paired_one R true i j d h l = absurd (let k : j < 1 = l in omega arith)
   paired_one R false i j d h l = absurd (let k : j < 0 = l in omega arith)
 
@@ -117,7 +117,7 @@ module _ {S C : Type 0} (T : Trial S C) (same : IsSameTest T.meanings) where
       let a = length-prefix_of m j (omega arith) in let b = length-prefix_of m k l in let c : length (prefix_of m j) ≡ length (prefix_of m k) = ap length e in omega arith
 
   -- a prefix that a lower mutant has too isn't counted at this one
-  not_least : (j k n : ℕ) → j < k → AreTogether T j k n → is_least T k n ≡ true → ⊥
+  pub not_least : (j k n : ℕ) → j < k → AreTogether T j k n → is_least T k n ≡ true → ⊥
   not_least j k n h t l = true≢false (sym l ∙ ap not (any_from (λ i. together T i k n) (below k) j (has_below k j h) (together_from T same j k n t)))
 
   different_mutants : (j k : ℕ) → j < k → (cs ds : List C) → IsPrefixAt j cs → IsPrefixAt k ds → cs ≢ ds
@@ -152,7 +152,7 @@ module _ {S C : Type 0} (T : Trial S C) (same : IsSameTest T.meanings) where
       }
 
   -- the least mutant that is together with m at n has no lower one that is
-  least_together : (m k n : ℕ) → AreTogether T k m n → list_any (λ j. together T j m n) (below k) ≡ false → is_least T k n ≡ true
+  pub least_together : (m k n : ℕ) → AreTogether T k m n → list_any (λ j. together T j m n) (below k) ≡ false → is_least T k n ≡ true
   least_together m k n t h = ap not (any_below (λ j. together T j k n) (λ j. together T j m n) k
       (λ j l. same_bools _ _
       (λ a. let b = AreTogether-from T same j k n a in together_from T same j m n (record { reached = b.reached; other_reached = t.other_reached; equal = b.equal ∙ t.equal }))

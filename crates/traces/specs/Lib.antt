@@ -6,3 +6,5 @@ pub mod Together
 pub mod Work
 pub mod Cost
 pub mod Configuration
+pub mod Ends
+pub mod Splits

@@ -1,5 +1,6 @@
 -- The traces of the mutants of one test.
 --     Trial            a machine's meanings, the variant of each mutant at each place, the start, the budget and the number of mutants
+--     within T n       the same trial with the budget n
 --     change_of m s    the change that mutant m makes in the state s
 --     changes_from     the changes of mutant m from the state s on, until the state has ended, but at most so many
 --     trace m          the changes of mutant m from the start on, within the budget
@@ -19,6 +20,9 @@ pub record Trial (S C : Type 0) : Type 0 where
   pub mutants : ℕ
 
 module _ {S C : Type 0} (T : Trial S C) where
+  abbrev pub within : ℕ → Trial S C
+  within n = record { meanings = T.meanings; variant = T.variant; start = T.start; budget = n; mutants = T.mutants }
+
   abbrev pub change_of : ℕ → S → C
   change_of m s = T.meanings.next (T.variant m (T.meanings.place s)) s
 
