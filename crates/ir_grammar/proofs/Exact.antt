@@ -1,8 +1,10 @@
 -- That a rule is read as it means, in one way, and how this follows for what is made of rules.
-use Rattle.std.proofs.Common.{◌≡◌, ℕ, zero, suc, ◌<◌, ◌≤◌, Bool, true, false, cond, List, [], ◌∷◌, ◌++◌, length, Option, Some, None, refl, sym, ap, ◌∙◌, subst, arith}
+use Rattle.std.proofs.Common.{◌≡◌, ℕ, zero, suc, ◌<◌, ◌≤◌, Bool, true, false, cond, List, [], ◌∷◌, ◌++◌, length, Option, Some, None, refl, sym, ap, ◌∙◌, subst}
+use Rattle.std.proofs.Common.{arith}
 use Rattle.std.proofs.lemmas.List.{append_assoc, append-nil}
 use Rattle.ir_grammar.specs.Lexeme.{Lexeme, Lexemes}
-use Rattle.ir_grammar.specs.Rule.{Rule, and_then, ◌>>=◌, ◌>>◌, pure, refuse, one, take_first, look, either, where_it, many, many_from, ReadsMany, skip_many, sign, further, some_listed, listed, onto}
+use Rattle.ir_grammar.specs.Rule.{Rule, and_then, ◌>>=◌, ◌>>◌, pure, refuse, one, take_first, look, either, where_it, many, many_from, ReadsMany, skip_many}
+use Rattle.ir_grammar.specs.Rule.{sign, further, some_listed, listed, onto}
 
 pub record Exact {A : Type 0} (p : Rule A) : Type 0 where
   pub sound : (ts : Lexemes) (x : A) (rest : Lexemes) → p.parse ts ≡ Some (x, rest) → p.reads ts x rest
@@ -67,15 +69,19 @@ module _ {A : Type 0} (begins : Lexemes → Bool) (p : Rule A) where
   abbrev more : ℕ → Lexemes → Option (List A × Lexemes)
   more n ts = and_then (p.parse ts) (λ x. and_then (many_from begins p.parse n x.1) (λ xs. Some (x.0 ∷ xs.0, xs.1)))
 
-  ended : (ts : Lexemes) (xs : List A) (rest : Lexemes) → begins ts ≡ false → ◌≡◌ {A = Option (List A × Lexemes)} (Some ([], ts)) (Some (xs, rest)) → ReadsMany begins p ts xs rest
+  ended : (ts : Lexemes) (xs : List A) (rest : Lexemes) → begins ts ≡ false → ◌≡◌ {A = Option (List A × Lexemes)} (Some ([], ts)) (Some (xs, rest))
+      → ReadsMany begins p ts xs rest
   ended ts xs rest b h = let q = parts [] xs ts rest h in subst (λ v. ReadsMany begins p ts v rest) q.0 (b, sym q.1)
 
-  many-sound : Exact p → (n : ℕ) (ts : Lexemes) (b : Bool) → begins ts ≡ b → (xs : List A) (rest : Lexemes) → many_from begins p.parse n ts ≡ Some (xs, rest) → ReadsMany begins p ts xs rest
-  many-sound e zero ts true same xs rest h = let k : ◌≡◌ {A = Option (List A × Lexemes)} None (Some (xs, rest)) = ap (λ v. cond v None (Some ([], ts))) (sym same) ∙ h in cc
+  many-sound : Exact p → (n : ℕ) (ts : Lexemes) (b : Bool) → begins ts ≡ b → (xs : List A) (rest : Lexemes) → many_from begins p.parse n ts ≡ Some (xs, rest)
+      → ReadsMany begins p ts xs rest
+  many-sound e zero ts true same xs rest h = let k : ◌≡◌ {A = Option (List A × Lexemes)} None (Some (xs, rest)) = ap (λ v. cond v None (Some ([], ts)))
+      (sym same) ∙ h in cc
   many-sound e zero ts false same xs rest h = ended ts xs rest same (ap (λ v. cond v None (Some ([], ts))) (sym same) ∙ h)
   many-sound e (suc n) ts false same xs rest h = ended ts xs rest same (ap (λ v. cond v (more n ts) (Some ([], ts))) (sym same) ∙ h)
   many-sound e (suc n) ts true same xs rest h =
-      let t = through (p.parse ts) (λ x. and_then (many_from begins p.parse n x.1) (λ xs. Some (x.0 ∷ xs.0, xs.1))) (xs, rest) (ap (λ v. cond v (more n ts) (Some ([], ts))) (sym same) ∙ h) in
+      let t = through (p.parse ts) (λ x. and_then (many_from begins p.parse n x.1) (λ xs. Some (x.0 ∷ xs.0, xs.1))) (xs, rest)
+      (ap (λ v. cond v (more n ts) (Some ([], ts))) (sym same) ∙ h) in
       let u = through (many_from begins p.parse n t.0.1) (λ xs. Some (t.0.0 ∷ xs.0, xs.1)) (xs, rest) t.2 in
       let q = parts (t.0.0 ∷ u.0.0) xs u.0.1 rest u.2 in
       subst (λ v. ReadsMany begins p ts v rest) q.0
@@ -85,12 +91,14 @@ module _ {A : Type 0} (begins : Lexemes → Bool) (p : Rule A) where
 abbrev pub Strict : {A : Type 0} → Rule A → Type 0
 Strict {A} p = (ts : Lexemes) (x : A) (rest : Lexemes) → p.reads ts x rest → length rest < length ts
 
-onto-onto : {A : Type 0} (front : List A) (x : A) (o : Option (List A × Lexemes)) → onto front (and_then o (λ xs. Some (x ∷ xs.0, xs.1))) ≡ onto (front ++ (x ∷ [])) o
+onto-onto : {A : Type 0} (front : List A) (x : A) (o : Option (List A × Lexemes)) → onto front (and_then o (λ xs. Some (x ∷ xs.0, xs.1))) ≡ onto
+    (front ++ (x ∷ [])) o
 onto-onto front x None = refl
 onto-onto front x (Some xs) = ap (λ ys. Some (ys, xs.1)) (sym (append_assoc front (x ∷ []) xs.0))
 
 module _ {A : Type 0} (begins : Lexemes → Bool) (p : Rule A) (e : Exact p) (strict : Strict p) where
-  many-only : (n : ℕ) (ts : Lexemes) (xs : List A) (rest : Lexemes) → length ts ≤ n → ReadsMany begins p ts xs rest → many_from begins p.parse n ts ≡ Some (xs, rest)
+  many-only : (n : ℕ) (ts : Lexemes) (xs : List A) (rest : Lexemes) → length ts ≤ n → ReadsMany begins p ts xs rest → many_from begins p.parse n ts ≡ Some
+      (xs, rest)
   many-only zero ts [] rest small (b, r) = ap (λ v. cond v None (Some ([], ts))) b ∙ ap (λ w. Some ([], w)) (sym r)
   many-only (suc n) ts [] rest small (b, r) = ap (λ v. cond v (more begins p n ts) (Some ([], ts))) b ∙ ap (λ w. Some ([], w)) (sym r)
   many-only zero ts (x ∷ xs) rest small (b, mid, r, m) = absurd (let s = strict ts x mid r in omega arith)
@@ -112,7 +120,8 @@ module _ {A : Type 0} (begins : Lexemes → Bool) (p : Rule A) (e : Exact p) (st
   }
 
   -- enough turns are enough
-  fuel-at : (n m : ℕ) (ts : Lexemes) → length ts ≤ n → length ts ≤ m → (o o' : Option (List A × Lexemes)) → many_from begins p.parse n ts ≡ o → many_from begins p.parse m ts ≡ o' → o ≡ o'
+  fuel-at : (n m : ℕ) (ts : Lexemes) → length ts ≤ n → length ts ≤ m → (o o' : Option (List A × Lexemes)) → many_from begins p.parse n ts ≡ o
+      → many_from begins p.parse m ts ≡ o' → o ≡ o'
   fuel-at n m ts a b None None f g = refl
   fuel-at n m ts a b (Some x) o' f g = sym (many-only m ts x.0 x.1 b (many-sound begins p e n ts (begins ts) refl x.0 x.1 f)) ∙ g
   fuel-at n m ts a b None (Some y) f g = sym f ∙ many-only n ts y.0 y.1 a (many-sound begins p e m ts (begins ts) refl y.0 y.1 g)
@@ -126,7 +135,8 @@ module _ {A : Type 0} (begins : Lexemes → Bool) (p : Rule A) (e : Exact p) (st
   one_more : (n : ℕ) (ts : Lexemes) → length ts ≡ n → (o : Option (A × Lexemes)) → p.parse ts ≡ o → begins ts ≡ true → many_from begins p.parse n ts ≡ goes o
   one_more zero ts same None f b = ap (λ v. cond v None (Some ([], ts))) b
   one_more zero ts same (Some x) f b = absurd (let s = strict ts x.0 x.1 (e.sound ts x.0 x.1 f) in omega arith)
-  one_more (suc n) ts same None f b = ap (λ v. cond v (more begins p n ts) (Some ([], ts))) b ∙ ap (λ o. and_then o (λ x. and_then (many_from begins p.parse n x.1) (λ xs. Some (x.0 ∷ xs.0, xs.1)))) f
+  one_more (suc n) ts same None f b = ap (λ v. cond v (more begins p n ts) (Some ([], ts))) b
+      ∙ ap (λ o. and_then o (λ x. and_then (many_from begins p.parse n x.1) (λ xs. Some (x.0 ∷ xs.0, xs.1)))) f
   one_more (suc n) ts same (Some x) f b =
       let s = strict ts x.0 x.1 (e.sound ts x.0 x.1 f) in
       ap (λ v. cond v (more begins p n ts) (Some ([], ts))) b
@@ -145,7 +155,8 @@ module _ {A : Type 0} (begins : Lexemes → Bool) (p : Rule A) (e : Exact p) (st
   many-none ts b = no_more (length ts) ts b
 
   -- the loop that adds to a list
-  pub onto-more : (front : List A) (ts : Lexemes) (x : A) (mid : Lexemes) → begins ts ≡ true → p.parse ts ≡ Some (x, mid) → onto front ((many begins p).parse ts) ≡ onto (front ++ (x ∷ [])) ((many begins p).parse mid)
+  pub onto-more : (front : List A) (ts : Lexemes) (x : A) (mid : Lexemes) → begins ts ≡ true → p.parse ts ≡ Some (x, mid)
+      → onto front ((many begins p).parse ts) ≡ onto (front ++ (x ∷ [])) ((many begins p).parse mid)
   onto-more front ts x mid b f = ap (onto front) (many-more ts b ∙ ap goes f) ∙ onto-onto front x ((many begins p).parse mid)
 
   pub onto-fails : (front : List A) (ts : Lexemes) → begins ts ≡ true → p.parse ts ≡ None → onto front ((many begins p).parse ts) ≡ None

@@ -1,15 +1,15 @@
 -- A group is read as it is defined.
-use Rattle.std.proofs.Common.{◌≡◌, ℕ, zero, suc, ◌<◌, ◌≤◌, Bool, true, false, ◌==◌, cond, List, [], ◌∷◌, ◌++◌, length, Option, Some, None, refl, sym, ap, ◌∙◌, arith, eq-eqb}
+use Rattle.std.proofs.Common.{◌≡◌, ℕ, zero, suc, ◌<◌, ◌≤◌, Bool, true, false, ◌==◌, cond, List, [], ◌∷◌, ◌++◌, length, Option, Some, None, refl, sym, ap, ◌∙◌}
+use Rattle.std.proofs.Common.{arith, eq-eqb}
 use Rattle.std.proofs.lemmas.Bool.{eqb-true}
 use Rattle.std.proofs.lemmas.List.{append_assoc, length-append}
+use Rattle.std.proofs.lemmas.Option.{same_Some}
 use Rattle.ir_grammar.specs.declared.starts.Bracket.{Bracket}
 use Rattle.ir_grammar.specs.declared.starts.Bracket.TheVariants as bracket
 use Rattle.ir_grammar.specs.Lexeme.{Lexeme, Lexemes}
-use Rattle.ir_grammar.specs.Groups.{kind_bracket, Balanced, nothing, other, nested, IsGroup, scan_step, scan, begin_scan, with_unit, scan_group, group_closed_by}
-use Rattle.ir_grammar.proofs.Exact.{Firm, parts, some_or}
-
-some_is : {X : Type 0} (a b : X) → ◌≡◌ {A = Option X} (Some a) (Some b) → a ≡ b
-some_is a b e = ap (some_or a) e
+use Rattle.ir_grammar.specs.Groups.{kind_bracket, Balanced, nothing, other, nested, IsGroup, scan_step, scan, begin_scan, with_unit, scan_group}
+use Rattle.ir_grammar.specs.Groups.{group_closed_by}
+use Rattle.ir_grammar.proofs.Exact.{Firm, parts}
 
 same : (b : ℕ) → (b == b) ≡ true
 same b = eq-eqb b b refl
@@ -39,15 +39,34 @@ pub record Closed (b : ℕ) (st : List ℕ) (ts rest : Lexemes) : Type 0 where
 Closed-shorter : (b : ℕ) (st : List ℕ) (ts rest : Lexemes) → (c : Closed b st ts rest) → length c.after < length ts
 Closed-shorter b st ts rest c = let e = ap length c.whole in let l = length-append c.body (c.last ∷ c.after) in omega arith
 
-closing : (l : Lexeme) (ts : Lexemes) (b d : ℕ) (st : List ℕ) (rest : Lexemes) → kind_bracket l.0 ≡ bracket.Closes d → (v : Bool) → (d == b) ≡ v → cond (d == b) (scan st ts) None ≡ Some rest → Closed b st (l ∷ ts) rest
-closing l ts b d st rest e true s g = record { body = []; last = l; after = ts; whole = refl; closes = e ∙ ap bracket.Closes (eqb-true d b s); balanced = nothing; goes = ap (λ v. cond v (scan st ts) None) (sym s) ∙ g }
+closing : (l : Lexeme) (ts : Lexemes) (b d : ℕ) (st : List ℕ) (rest : Lexemes) → kind_bracket l.0 ≡ bracket.Closes d → (v : Bool) → (d == b) ≡ v
+    → cond (d == b) (scan st ts) None ≡ Some rest → Closed b st (l ∷ ts) rest
+closing l ts b d st rest e true s g = record {
+  body = [];
+  last = l;
+  after = ts;
+  whole = refl;
+  closes = e ∙ ap bracket.Closes (eqb-true d b s);
+  balanced =
+      nothing;
+  goes = ap (λ v. cond v (scan st ts) None) (sym s) ∙ g;
+}
 closing l ts b d st rest e false s g = let f : ◌≡◌ {A = Option Lexemes} None (Some rest) = ap (λ v. cond v (scan st ts) None) (sym s) ∙ g in cc
 
-module _ (n : ℕ) (l : Lexeme) (ts rest : Lexemes) (small : length ts ≤ n) (ih : (z : Lexemes) → length z ≤ n → (b : ℕ) (st : List ℕ) → scan (b ∷ st) z ≡ Some rest → Closed b st z rest) where
+module _ (n : ℕ) (l : Lexeme) (ts rest : Lexemes) (small : length ts ≤ n) (ih : (z : Lexemes) → length z ≤ n → (b : ℕ) (st : List ℕ)
+    → scan (b ∷ st) z ≡ Some rest → Closed b st z rest) where
   go : (b : ℕ) (st : List ℕ) (v : Bracket) → kind_bracket l.0 ≡ v → scan_step v b st (λ more. scan more ts) ≡ Some rest → Closed b st (l ∷ ts) rest
   go b st bracket.Other e g =
       let c = ih ts small b st g in
-      record { body = l ∷ c.body; last = c.last; after = c.after; whole = ap (λ x. l ∷ x) c.whole; closes = c.closes; balanced = other l c.body e c.balanced; goes = c.goes }
+      record {
+        body = l ∷ c.body;
+        last = c.last;
+        after = c.after;
+        whole = ap (λ x. l ∷ x) c.whole;
+        closes = c.closes;
+        balanced = other l c.body e c.balanced;
+        goes = c.goes;
+      }
   go b st (bracket.Closes d) e g = closing l ts b d st rest e (d == b) refl g
   go b st (bracket.Opens d) e g =
       let c = ih ts small d (b ∷ st) g in
@@ -76,12 +95,25 @@ with_unit-some None u rest h = cc
 with_unit-some (Some ts) u rest h = ap (λ v. Some v) (parts tt u ts rest h).1
 
 module _ (class : ℕ → Bool) where
-  fits-sound : (l : Lexeme) (ts rest : Lexemes) (d : ℕ) → kind_bracket l.0 ≡ bracket.Opens d → (v : Bool) → class d ≡ v → cond (class d) (scan (d ∷ []) ts) None ≡ Some rest → IsGroup class (l ∷ ts) rest
+  fits-sound : (l : Lexeme) (ts rest : Lexemes) (d : ℕ) → kind_bracket l.0 ≡ bracket.Opens d → (v : Bool) → class d ≡ v
+      → cond (class d) (scan (d ∷ []) ts) None ≡ Some rest → IsGroup class (l ∷ ts) rest
   unfolding scan
   fits-sound l ts rest d e false r g = let f : ◌≡◌ {A = Option Lexemes} None (Some rest) = ap (λ v. cond v (scan (d ∷ []) ts) None) (sym r) ∙ g in cc
   fits-sound l ts rest d e true r g =
       let c = scan-closed (length ts) ts (omega arith) d [] rest (ap (λ v. cond v (scan (d ∷ []) ts) None) (sym r) ∙ g) in
-      record { first = l; last = c.last; closer = d; body = c.body; whole = ap (λ x. l ∷ x) (c.whole ∙ ap (λ x. c.body ++ (c.last ∷ x)) (some_is c.after rest c.goes)); opens = e; fits = r; closes = c.closes; balanced = c.balanced }
+      record {
+        first = l;
+        last = c.last;
+        closer = d;
+        body = c.body;
+        whole =
+            ap (λ x. l ∷ x) (c.whole ∙ ap (λ x. c.body ++ (c.last ∷ x)) (same_Some c.after rest c.goes));
+        opens = e;
+        fits = r;
+        closes = c.closes;
+        balanced =
+            c.balanced;
+      }
 
   begin-sound : (l : Lexeme) (ts rest : Lexemes) (v : Bracket) → kind_bracket l.0 ≡ v → begin_scan class v ts ≡ Some rest → IsGroup class (l ∷ ts) rest
   begin-sound l ts rest bracket.Other e g = cc

@@ -3,3 +3,4 @@ pub mod GroupExact
 pub mod Productions
 pub mod ModuleLemmas
 pub mod Loops
+pub mod Names

@@ -12,17 +12,24 @@ module _ {A : Type 0} (begins : Lexemes → Bool) (p : Rule A) (e : Exact p) whe
   abbrev through_comma : Lexemes → Option (Unit {0} × Lexemes) → Option (A × Lexemes)
   through_comma ts o = and_then o (λ y. p.parse y.1)
 
-  pub further-goes : (front : List A) (ts : Lexemes) → comma_then begins ts ≡ true → (mid : Lexemes) (x : A) (rest : Lexemes) → (sign 44).parse ts ≡ Some (tt, mid) → p.parse mid ≡ Some (x, rest)
+  pub further-goes : (front : List A) (ts : Lexemes) → comma_then begins ts ≡ true → (mid : Lexemes) (x : A) (rest : Lexemes)
+      → (sign 44).parse ts ≡ Some (tt, mid) → p.parse mid ≡ Some (x, rest)
       → onto front ((further begins p).parse ts) ≡ onto (front ++ (x ∷ [])) ((further begins p).parse rest)
-  further-goes front ts b mid x rest h g = onto-more (comma_then begins) (sign 44 >> p) (firm-comma p e).exact (firm-comma p e).strict front ts x rest b (ap (through_comma ts) h ∙ g)
+  further-goes front ts b mid x rest h g = onto-more (comma_then begins) (sign 44 >> p) (firm-comma p e).exact (firm-comma p e).strict front ts x rest b
+      (ap (through_comma ts) h ∙ g)
 
-  pub further-no_sign : (front : List A) (ts : Lexemes) → comma_then begins ts ≡ true → (sign 44).parse ts ≡ None → onto front ((further begins p).parse ts) ≡ None
-  further-no_sign front ts b h = onto-fails (comma_then begins) (sign 44 >> p) (firm-comma p e).exact (firm-comma p e).strict front ts b (ap (through_comma ts) h)
+  pub further-no_sign : (front : List A) (ts : Lexemes) → comma_then begins ts ≡ true → (sign 44).parse ts ≡ None → onto front ((further begins p).parse ts)
+      ≡ None
+  further-no_sign front ts b h = onto-fails (comma_then begins) (sign 44 >> p) (firm-comma p e).exact (firm-comma p e).strict front ts b
+      (ap (through_comma ts) h)
 
-  pub further-no_part : (front : List A) (ts : Lexemes) → comma_then begins ts ≡ true → (mid : Lexemes) → (sign 44).parse ts ≡ Some (tt, mid) → p.parse mid ≡ None → onto front ((further begins p).parse ts) ≡ None
-  further-no_part front ts b mid h g = onto-fails (comma_then begins) (sign 44 >> p) (firm-comma p e).exact (firm-comma p e).strict front ts b (ap (through_comma ts) h ∙ g)
+  pub further-no_part : (front : List A) (ts : Lexemes) → comma_then begins ts ≡ true → (mid : Lexemes) → (sign 44).parse ts ≡ Some (tt, mid)
+      → p.parse mid ≡ None → onto front ((further begins p).parse ts) ≡ None
+  further-no_part front ts b mid h g = onto-fails (comma_then begins) (sign 44 >> p) (firm-comma p e).exact (firm-comma p e).strict front ts b
+      (ap (through_comma ts) h ∙ g)
 
-  pub further-shorter : (ts mid : Lexemes) (x : A) (rest : Lexemes) → (sign 44).parse ts ≡ Some (tt, mid) → p.parse mid ≡ Some (x, rest) → length rest < length ts
+  pub further-shorter : (ts mid : Lexemes) (x : A) (rest : Lexemes) → (sign 44).parse ts ≡ Some (tt, mid) → p.parse mid ≡ Some (x, rest)
+      → length rest < length ts
   further-shorter ts mid x rest h g = (firm-comma p e).strict ts x rest ((firm-comma p e).exact.sound ts x rest (ap (through_comma ts) h ∙ g))
 
   pub further-ends : (front : List A) (ts : Lexemes) → comma_then begins ts ≡ false → onto front ((further begins p).parse ts) ≡ Some (front, ts)
@@ -41,7 +48,8 @@ module _ (begins : Lexemes → Bool) (p : Rule (Unit {0})) (a : Firm p) where
   abbrev goes_on : Option (Unit {0} × Lexemes) → Option (List (Unit {0}) × Lexemes)
   goes_on o = and_then o (λ x. and_then ((many begins p).parse x.1) (λ xs. Some (x.0 ∷ xs.0, xs.1)))
 
-  pub skip_many-goes : (ts : Lexemes) → begins ts ≡ true → (x : Unit {0}) (mid : Lexemes) → p.parse ts ≡ Some (x, mid) → (skip_many begins p).parse ts ≡ (skip_many begins p).parse mid
+  pub skip_many-goes : (ts : Lexemes) → begins ts ≡ true → (x : Unit {0}) (mid : Lexemes) → p.parse ts ≡ Some (x, mid) → (skip_many begins p).parse ts ≡
+      (skip_many begins p).parse mid
   skip_many-goes ts b x mid h = ap no_value (many-more begins p a.exact a.strict ts b ∙ ap goes_on h) ∙ no_value-onto x ((many begins p).parse mid)
 
   pub skip_many-fails : (ts : Lexemes) → begins ts ≡ true → p.parse ts ≡ None → (skip_many begins p).parse ts ≡ None

@@ -1,5 +1,6 @@
 -- A module is read in one way, and where there is none, there is one first place that isn't read.
-use Rattle.std.proofs.Common.{◌≡◌, ℕ, zero, suc, ◌+◌, ◌-◌, ◌<◌, ◌≤◌, ◌⊎◌, inl, inr, Bool, true, false, List, [], ◌∷◌, ◌++◌, length, Option, Some, None, refl, sym, ap, ◌∙◌, subst, arith}
+use Rattle.std.proofs.Common.{◌≡◌, ℕ, zero, suc, ◌+◌, ◌-◌, ◌<◌, ◌≤◌, ◌⊎◌, inl, inr, Bool, true, false, List, [], ◌∷◌, ◌++◌, length, Option, Some, None, refl}
+use Rattle.std.proofs.Common.{sym, ap, ◌∙◌, subst, arith}
 use Rattle.ir_tree.specs.declared.item.Item.{Item}
 use Rattle.ir_grammar.specs.Lexeme.{Lexemes}
 use Rattle.ir_grammar.specs.Items.{SomeItem, item}
@@ -23,11 +24,19 @@ nothing-read inside x mid h a = let s = item-firm.strict [] x mid h in omega ari
 
 pub Front-shorter : (n : ℕ) (i : Bool) (ts : Lexemes) (ps : List Piece) (j : Bool) (rest : Lexemes) → Front n i ts ps j rest → length rest ≤ length ts
 Front-shorter n i ts [] j rest (e, f) = let l = ap length f in omega arith
-Front-shorter n i ts (p ∷ ps) j rest (mid, h, a, at, more) = let s = item-firm.strict ts p.0 mid h in let t = Front-shorter n (leaves_open p.0) mid ps j rest more in omega arith
+Front-shorter n i ts (p ∷ ps) j rest (mid, h, a, at, more) = let s = item-firm.strict ts p.0 mid h in let t =
+    Front-shorter n (leaves_open p.0) mid ps j rest more in omega arith
 
-pub Front-more : (n : ℕ) (i : Bool) (ts : Lexemes) (ps : List Piece) (j : Bool) (rest mid : Lexemes) (x : SomeItem) (at : ℕ) → Front n i ts ps j rest → item.reads rest x mid → is_allowed j x ≡ true → at + length rest ≡ n
+pub Front-more : (n : ℕ) (i : Bool) (ts : Lexemes) (ps : List Piece) (j : Bool) (rest mid : Lexemes) (x : SomeItem) (at : ℕ) → Front n i ts ps j rest
+    → item.reads rest x mid → is_allowed j x ≡ true → at + length rest ≡ n
     → Front n i ts (ps ++ ((x, at) ∷ [])) (leaves_open x) mid
-Front-more n i ts [] j rest mid x at (e, f) h a p = (mid, subst (λ c. item.reads c x mid) (sym f) h, subst (λ b. is_allowed b x ≡ true) (sym e) a, subst (λ c. at + length c ≡ n) (sym f) p, (refl, refl))
+Front-more n i ts [] j rest mid x at (e, f) h a p = (
+  mid,
+  subst (λ c. item.reads c x mid) (sym f) h,
+  subst (λ b. is_allowed b x ≡ true) (sym e) a,
+  subst (λ c. at + length c ≡ n) (sym f) p,
+  (refl, refl),
+)
 Front-more n i ts (q ∷ ps) j rest mid x at (m, r, ok, pl, more) h a p = (m, r, ok, pl, Front-more n (leaves_open q.0) m ps j rest mid x at more h a p)
 
 -- two that go as far as they can are one
@@ -39,7 +48,8 @@ pub record SameFront (ps qs : List Piece) (j k : Bool) (rest rest' : Lexemes) : 
 cons-one : (p q : Piece) (ps qs : List Piece) → p.0 ≡ q.0 → p.1 ≡ q.1 → ps ≡ qs → p ∷ ps ≡ q ∷ qs
 cons-one p q ps qs e f g = ap (λ x. (x, p.1) ∷ ps) e ∙ ap (λ at. (q.0, at) ∷ ps) f ∙ ap (λ more. q ∷ more) g
 
-pub Front-one : (n : ℕ) (i : Bool) (ts : Lexemes) (ps qs : List Piece) (j k : Bool) (rest rest' : Lexemes) → Front n i ts ps j rest → Front n i ts qs k rest' → NoItem j rest → NoItem k rest' → SameFront ps qs j k rest rest'
+pub Front-one : (n : ℕ) (i : Bool) (ts : Lexemes) (ps qs : List Piece) (j k : Bool) (rest rest' : Lexemes) → Front n i ts ps j rest → Front n i ts qs k rest'
+    → NoItem j rest → NoItem k rest' → SameFront ps qs j k rest rest'
 Front-one n i ts [] [] j k rest rest' (e, f) (e', f') s t = record { pieces = refl; inside = sym e ∙ e'; rests = sym f ∙ f' }
 Front-one n i ts [] (q ∷ qs) j k rest rest' (e, f) (mid, h, a, at, more) s t =
     absurd (s q.0 mid (subst (λ c. item.reads c q.0 mid) f h) (subst (λ b. is_allowed b q.0 ≡ true) e a))
@@ -65,7 +75,14 @@ stopped n i ts s = record { pieces = []; open_at = i; rest = ts; front = (refl, 
 
 module _ (n : ℕ) (i : Bool) (ts : Lexemes) (small : length ts ≤ n) where
   going : (x : SomeItem) (mid : Lexemes) → item.reads ts x mid → is_allowed i x ≡ true → Reading n (leaves_open x) mid → Reading n i ts
-  going x mid h a r = record { pieces = (x, n - length ts) ∷ r.pieces; open_at = r.open_at; rest = r.rest; front = (mid, h, a, (omega arith), r.front); none = r.none }
+  going x mid h a r = record {
+    pieces = (x, n - length ts) ∷ r.pieces;
+    open_at = r.open_at;
+    rest = r.rest;
+    front = (mid, h, a, (omega arith), r.front);
+    none =
+        r.none;
+  }
 
   refused : (x : SomeItem) (mid : Lexemes) → item.reads ts x mid → is_allowed i x ≡ false → Reading n i ts
   refused x mid h a = stopped n i ts (λ y mid' g b. let one = item-one ts x y mid mid' h g in let c : is_allowed i x ≡ true = ap (is_allowed i) one.0 ∙ b in cc)
@@ -74,8 +91,10 @@ module _ (n : ℕ) (i : Bool) (ts : Lexemes) (small : length ts ≤ n) where
   by_permission x mid h r true e = going x mid h e r
   by_permission x mid h r false e = refused x mid h e
 
-  by_item : ((x : SomeItem) (mid : Lexemes) → length mid < length ts → Reading n (leaves_open x) mid) → (o : Option (SomeItem × Lexemes)) → item.parse ts ≡ o → Reading n i ts
-  by_item ih None e = stopped n i ts (λ x mid h a. let f : ◌≡◌ {A = Option (SomeItem × Lexemes)} None (Some (x, mid)) = sym e ∙ item-firm.exact.only ts x mid h in cc)
+  by_item : ((x : SomeItem) (mid : Lexemes) → length mid < length ts → Reading n (leaves_open x) mid) → (o : Option (SomeItem × Lexemes)) → item.parse ts ≡ o
+      → Reading n i ts
+  by_item ih None e = stopped n i ts (λ x mid h a. let f : ◌≡◌ {A = Option (SomeItem × Lexemes)} None (Some (x, mid)) = sym e
+      ∙ item-firm.exact.only ts x mid h in cc)
   by_item ih (Some y) e =
       let h = item-firm.exact.sound ts y.0 y.1 e in
       by_permission y.0 y.1 h (ih y.0 y.1 (item-firm.strict ts y.0 y.1 h)) (is_allowed i y.0) refl

@@ -2,7 +2,8 @@
 use Rattle.std.proofs.Common.{◌≡◌, ℕ, zero, suc, ◌-◌, List, Option, Some, None, refl, ap, arith}
 use Rattle.am_base.specs.declared.word.BinOp.{BinOp}
 use Rattle.am_base.specs.declared.word.Cast.{Cast}
-use Rattle.ir_form.specs.Bytes.{Text}
+use Rattle.am_base.specs.declared.limits.TheConstants.{MAX_NESTING}
+use Rattle.ir_tokens.specs.Bytes.{Text}
 use Rattle.ir_tree.specs.declared.name.Name.{Name}
 use Rattle.ir_tree.specs.declared.type_text.TyText.{TyText}
 use Rattle.ir_tree.specs.declared.operand.Init.{Init}
@@ -24,11 +25,16 @@ use Rattle.ir_grammar.specs.Rule.{Rule}
 use Rattle.ir_grammar.specs.Lexeme.{Lexemes, sees_sign}
 use Rattle.ir_grammar.specs.Starts.{type_start, sees_type}
 use Rattle.ir_grammar.specs.Types.{simple, array, struct, nested, type_in, type_text, result_type}
-use Rattle.ir_grammar.specs.Skips.{some_integer, skip_by, skip, skipped, head_skipped, flag_by, flag, flagged, word_flags, optional, tail_by, tail, tailed, global_tailed}
-use Rattle.ir_grammar.specs.Operands.{constant_index, get_constant, operand_by, operand, typed_operand, element, init_array, init_struct, init_nested, init_simple, init_in}
-use Rattle.ir_grammar.specs.Ops.{arithmetic_flags, cast_flags, binary, compare, select, conversion, freeze, count, alloca, load, store, get, entry, phi, argument, call, target, conditional, branch, case, switch, ret, op_by, instruction}
-use Rattle.ir_grammar.specs.Items.{source, target_line, attributes, metadata, type_definition, instruction_of, bound, global, optional_local, parameter, parameters, declare, head, item_by, item}
-use Rattle.ir_grammar.proofs.Exact.{Exact, Firm, exact-bind, exact-pure, exact-one, exact-where_it, exact-repeated, exact-skip_many, exact-further, exact-some_listed, exact-listed, firm-one, firm-refuse, firm-bind, firm-look, firm-where_it}
+use Rattle.ir_grammar.specs.Skips.{some_integer, skip_by, skip, skipped, head_skipped, flag_by, flag, flagged, word_flags, optional, tail_by, tail, tailed}
+use Rattle.ir_grammar.specs.Skips.{global_tailed}
+use Rattle.ir_grammar.specs.Operands.{constant_index, get_constant, operand_by, operand, typed_operand, element, init_array, init_struct, init_nested}
+use Rattle.ir_grammar.specs.Operands.{init_simple, init_in}
+use Rattle.ir_grammar.specs.Ops.{arithmetic_flags, cast_flags, binary, compare, select, conversion, freeze, count, alloca, load, store, get, entry, phi}
+use Rattle.ir_grammar.specs.Ops.{argument, call, target, conditional, branch, case, switch, ret, op_by, instruction}
+use Rattle.ir_grammar.specs.Items.{source, target_line, attributes, metadata, type_definition, instruction_of, bound, global, optional_local, parameter}
+use Rattle.ir_grammar.specs.Items.{parameters, declare, head, item_by, item}
+use Rattle.ir_grammar.proofs.Exact.{Exact, Firm, exact-bind, exact-pure, exact-one, exact-where_it, exact-repeated, exact-skip_many, exact-further}
+use Rattle.ir_grammar.proofs.Exact.{exact-some_listed, exact-listed, firm-one, firm-refuse, firm-bind, firm-look, firm-where_it}
 use Rattle.ir_grammar.proofs.GroupExact.{group-firm}
 
 -- ---- types
@@ -43,7 +49,8 @@ simple-firm types.Nothing = firm-refuse
 
 module _ (inner : Rule TyText) (e : Exact inner) where
   array-firm : Firm (array inner)
-  array-firm = firm-bind _ _ (firm-one _) (λ _. exact-bind _ _ (exact-one _) (λ _. exact-bind _ _ (exact-one _) (λ _. exact-bind _ _ e (λ _. exact-bind _ _ (exact-one _) (λ _. exact-pure _)))))
+  array-firm = firm-bind _ _ (firm-one _) (λ _. exact-bind _ _ (exact-one _)
+      (λ _. exact-bind _ _ (exact-one _) (λ _. exact-bind _ _ e (λ _. exact-bind _ _ (exact-one _) (λ _. exact-pure _)))))
 
   struct-firm : Firm (struct inner)
   struct-firm = firm-bind _ _ (firm-one _) (λ _. exact-bind _ _ (exact-listed sees_type _ e) (λ _. exact-bind _ _ (exact-one _) (λ _. exact-pure _)))
@@ -68,7 +75,7 @@ type_in-deep zero ts some = absurd (some refl)
 type_in-deep (suc depth) ts some = let e : depth ≡ suc depth - 1 = omega arith in ap (λ d. (nested (type_in d) (type_start ts)).parse ts) e
 
 pub type_text-firm : Firm type_text
-type_text-firm = type_in-firm 64
+type_text-firm = type_in-firm MAX_NESTING
 
 pub type_text-exact : Exact type_text
 type_text-exact = type_text-firm.exact
@@ -143,8 +150,10 @@ pub constant_index-exact : Exact constant_index
 constant_index-exact = exact-bind _ _ type_text-exact (λ _. exact-bind _ _ (exact-one _) (λ _. exact-pure _))
 
 get_constant-firm : Firm get_constant
-get_constant-firm = firm-bind _ _ (firm-one _) (λ _. exact-bind _ _ flagged-exact (λ _. exact-bind _ _ (exact-one _) (λ _. exact-bind _ _ type_text-exact (λ _. exact-bind _ _ (exact-one _) (λ _.
-    exact-bind _ _ type_text-exact (λ _. exact-bind _ _ (exact-one _) (λ _. exact-bind _ _ (exact-further sees_type _ constant_index-exact) (λ _. exact-bind _ _ (exact-one _) (λ _. exact-pure _)))))))))
+get_constant-firm = firm-bind _ _ (firm-one _) (λ _. exact-bind _ _ flagged-exact
+    (λ _. exact-bind _ _ (exact-one _) (λ _. exact-bind _ _ type_text-exact (λ _. exact-bind _ _ (exact-one _) (λ _.
+    exact-bind _ _ type_text-exact (λ _. exact-bind _ _ (exact-one _) (λ _. exact-bind _ _ (exact-further sees_type _ constant_index-exact)
+    (λ _. exact-bind _ _ (exact-one _) (λ _. exact-pure _)))))))))
 
 operand_by-firm : (s : OperandStart) → Firm (operand_by s)
 operand_by-firm operands.Local = firm-bind _ _ (firm-one _) (λ _. exact-pure _)
@@ -176,10 +185,12 @@ module _ (inner : Rule Init) (e : Exact inner) where
   element-exact = exact-bind _ _ type_text-exact (λ _. exact-bind _ _ e (λ _. exact-pure _))
 
   init_array-firm : Firm (init_array inner)
-  init_array-firm = firm-bind _ _ (firm-one _) (λ _. exact-bind _ _ (exact-listed sees_type _ element-exact) (λ _. exact-bind _ _ (exact-one _) (λ _. exact-pure _)))
+  init_array-firm = firm-bind _ _ (firm-one _) (λ _. exact-bind _ _ (exact-listed sees_type _ element-exact)
+      (λ _. exact-bind _ _ (exact-one _) (λ _. exact-pure _)))
 
   init_struct-firm : Firm (init_struct inner)
-  init_struct-firm = firm-bind _ _ (firm-one _) (λ _. exact-bind _ _ (exact-listed sees_type _ element-exact) (λ _. exact-bind _ _ (exact-one _) (λ _. exact-pure _)))
+  init_struct-firm = firm-bind _ _ (firm-one _) (λ _. exact-bind _ _ (exact-listed sees_type _ element-exact)
+      (λ _. exact-bind _ _ (exact-one _) (λ _. exact-pure _)))
 
   init_nested-firm : Firm (init_nested inner)
   init_nested-firm = firm-where_it _ _ _ init_array-firm (firm-where_it _ _ _ init_struct-firm init_simple-firm)
@@ -201,16 +212,22 @@ typed-exact : Exact typed_operand
 typed-exact = typed_operand-firm.exact
 
 pub binary-exact : (b : BinOp) → Exact (binary b)
-binary-exact b = exact-bind _ _ (word_flags-exact arithmetic_flags) (λ _. exact-bind _ _ type_text-exact (λ _. exact-bind _ _ operand-firm.exact (λ _. exact-bind _ _ (exact-one _) (λ _. exact-bind _ _ operand-firm.exact (λ _. exact-pure _)))))
+binary-exact b = exact-bind _ _ (word_flags-exact arithmetic_flags)
+    (λ _. exact-bind _ _ type_text-exact (λ _. exact-bind _ _ operand-firm.exact
+    (λ _. exact-bind _ _ (exact-one _) (λ _. exact-bind _ _ operand-firm.exact (λ _. exact-pure _)))))
 
 pub compare-exact : Exact compare
-compare-exact = exact-bind _ _ (optional-exact _) (λ _. exact-bind _ _ (exact-one _) (λ _. exact-bind _ _ type_text-exact (λ _. exact-bind _ _ operand-firm.exact (λ _. exact-bind _ _ (exact-one _) (λ _. exact-bind _ _ operand-firm.exact (λ _. exact-pure _))))))
+compare-exact = exact-bind _ _ (optional-exact _) (λ _. exact-bind _ _ (exact-one _)
+    (λ _. exact-bind _ _ type_text-exact (λ _. exact-bind _ _ operand-firm.exact
+    (λ _. exact-bind _ _ (exact-one _) (λ _. exact-bind _ _ operand-firm.exact (λ _. exact-pure _))))))
 
 pub select-exact : Exact select
-select-exact = exact-bind _ _ typed-exact (λ _. exact-bind _ _ (exact-one _) (λ _. exact-bind _ _ typed-exact (λ _. exact-bind _ _ (exact-one _) (λ _. exact-bind _ _ typed-exact (λ _. exact-pure _)))))
+select-exact = exact-bind _ _ typed-exact (λ _. exact-bind _ _ (exact-one _)
+    (λ _. exact-bind _ _ typed-exact (λ _. exact-bind _ _ (exact-one _) (λ _. exact-bind _ _ typed-exact (λ _. exact-pure _)))))
 
 pub conversion-exact : (c : Cast) → Exact (conversion c)
-conversion-exact c = exact-bind _ _ (word_flags-exact cast_flags) (λ _. exact-bind _ _ typed-exact (λ _. exact-bind _ _ (exact-one _) (λ _. exact-bind _ _ type_text-exact (λ _. exact-pure _))))
+conversion-exact c = exact-bind _ _ (word_flags-exact cast_flags)
+    (λ _. exact-bind _ _ typed-exact (λ _. exact-bind _ _ (exact-one _) (λ _. exact-bind _ _ type_text-exact (λ _. exact-pure _))))
 
 pub freeze-exact : Exact freeze
 freeze-exact = exact-bind _ _ typed-exact (λ _. exact-pure _)
@@ -222,16 +239,20 @@ pub alloca-exact : Exact alloca
 alloca-exact = exact-bind _ _ type_text-exact (λ _. exact-bind _ _ count-exact (λ _. exact-pure _))
 
 pub load-exact : Exact load
-load-exact = exact-bind _ _ (optional-exact _) (λ _. exact-bind _ _ type_text-exact (λ _. exact-bind _ _ (exact-one _) (λ _. exact-bind _ _ typed-exact (λ _. exact-pure _))))
+load-exact = exact-bind _ _ (optional-exact _) (λ _. exact-bind _ _ type_text-exact
+    (λ _. exact-bind _ _ (exact-one _) (λ _. exact-bind _ _ typed-exact (λ _. exact-pure _))))
 
 pub store-exact : Exact store
-store-exact = exact-bind _ _ (optional-exact _) (λ _. exact-bind _ _ typed-exact (λ _. exact-bind _ _ (exact-one _) (λ _. exact-bind _ _ typed-exact (λ _. exact-pure _))))
+store-exact = exact-bind _ _ (optional-exact _) (λ _. exact-bind _ _ typed-exact
+    (λ _. exact-bind _ _ (exact-one _) (λ _. exact-bind _ _ typed-exact (λ _. exact-pure _))))
 
 pub get-exact : Exact get
-get-exact = exact-bind _ _ flagged-exact (λ _. exact-bind _ _ type_text-exact (λ _. exact-bind _ _ (exact-one _) (λ _. exact-bind _ _ typed-exact (λ _. exact-bind _ _ (exact-further sees_type _ typed-exact) (λ _. exact-pure _)))))
+get-exact = exact-bind _ _ flagged-exact (λ _. exact-bind _ _ type_text-exact
+    (λ _. exact-bind _ _ (exact-one _) (λ _. exact-bind _ _ typed-exact (λ _. exact-bind _ _ (exact-further sees_type _ typed-exact) (λ _. exact-pure _)))))
 
 pub entry-exact : Exact entry
-entry-exact = exact-bind _ _ (exact-one _) (λ _. exact-bind _ _ operand-firm.exact (λ _. exact-bind _ _ (exact-one _) (λ _. exact-bind _ _ (exact-one _) (λ _. exact-bind _ _ (exact-one _) (λ _. exact-pure _)))))
+entry-exact = exact-bind _ _ (exact-one _) (λ _. exact-bind _ _ operand-firm.exact
+    (λ _. exact-bind _ _ (exact-one _) (λ _. exact-bind _ _ (exact-one _) (λ _. exact-bind _ _ (exact-one _) (λ _. exact-pure _)))))
 
 pub phi-exact : Exact phi
 phi-exact = exact-bind _ _ type_text-exact (λ _. exact-bind _ _ (exact-some_listed (sees_sign 91) _ entry-exact) (λ _. exact-pure _))
@@ -247,7 +268,8 @@ pub target-exact : Exact target
 target-exact = exact-bind _ _ (exact-one _) (λ _. exact-one _)
 
 pub conditional-exact : Exact conditional
-conditional-exact = exact-bind _ _ typed-exact (λ _. exact-bind _ _ (exact-one _) (λ _. exact-bind _ _ target-exact (λ _. exact-bind _ _ (exact-one _) (λ _. exact-bind _ _ target-exact (λ _. exact-pure _)))))
+conditional-exact = exact-bind _ _ typed-exact (λ _. exact-bind _ _ (exact-one _)
+    (λ _. exact-bind _ _ target-exact (λ _. exact-bind _ _ (exact-one _) (λ _. exact-bind _ _ target-exact (λ _. exact-pure _)))))
 
 pub branch-exact : Exact branch
 branch-exact = exact-where_it _ _ _ (exact-bind _ _ target-exact (λ _. exact-pure _)) conditional-exact
@@ -256,7 +278,9 @@ pub case-firm : Firm case
 case-firm = firm-bind _ _ typed_operand-firm (λ _. exact-bind _ _ (exact-one _) (λ _. exact-bind _ _ target-exact (λ _. exact-pure _)))
 
 pub switch-exact : Exact switch
-switch-exact = exact-bind _ _ typed-exact (λ _. exact-bind _ _ (exact-one _) (λ _. exact-bind _ _ target-exact (λ _. exact-bind _ _ (exact-one _) (λ _. exact-bind _ _ (exact-repeated sees_type _ case-firm) (λ _. exact-bind _ _ (exact-one _) (λ _. exact-pure _))))))
+switch-exact = exact-bind _ _ typed-exact (λ _. exact-bind _ _ (exact-one _)
+    (λ _. exact-bind _ _ target-exact (λ _. exact-bind _ _ (exact-one _) (λ _. exact-bind _ _ (exact-repeated sees_type _ case-firm)
+    (λ _. exact-bind _ _ (exact-one _) (λ _. exact-pure _))))))
 
 pub ret-exact : Exact ret
 ret-exact = exact-where_it _ _ _ (exact-bind _ _ (exact-one _) (λ _. exact-pure _)) (exact-bind _ _ typed-exact (λ _. exact-pure _))
@@ -290,13 +314,16 @@ source-firm : Firm source
 source-firm = firm-bind _ _ (firm-one _) (λ _. exact-bind _ _ (exact-one _) (λ _. exact-bind _ _ (exact-one _) (λ _. exact-pure _)))
 
 target_line-firm : Firm target_line
-target_line-firm = firm-bind _ _ (firm-one _) (λ _. exact-bind _ _ (exact-where_it _ _ _ (exact-one _) (exact-one _)) (λ _. exact-bind _ _ (exact-one _) (λ _. exact-bind _ _ (exact-one _) (λ _. exact-pure _))))
+target_line-firm = firm-bind _ _ (firm-one _) (λ _. exact-bind _ _ (exact-where_it _ _ _ (exact-one _) (exact-one _))
+    (λ _. exact-bind _ _ (exact-one _) (λ _. exact-bind _ _ (exact-one _) (λ _. exact-pure _))))
 
 attributes-firm : Firm attributes
-attributes-firm = firm-bind _ _ (firm-one _) (λ _. exact-bind _ _ (exact-one _) (λ _. exact-bind _ _ (exact-one _) (λ _. exact-bind _ _ (group-firm _).exact (λ _. exact-pure _))))
+attributes-firm = firm-bind _ _ (firm-one _) (λ _. exact-bind _ _ (exact-one _)
+    (λ _. exact-bind _ _ (exact-one _) (λ _. exact-bind _ _ (group-firm _).exact (λ _. exact-pure _))))
 
 metadata-firm : Firm metadata
-metadata-firm = firm-bind _ _ (firm-one _) (λ _. exact-bind _ _ (exact-one _) (λ _. exact-bind _ _ (optional-exact _) (λ _. exact-bind _ _ (exact-one _) (λ _. exact-bind _ _ (group-firm _).exact (λ _. exact-pure _)))))
+metadata-firm = firm-bind _ _ (firm-one _) (λ _. exact-bind _ _ (exact-one _)
+    (λ _. exact-bind _ _ (optional-exact _) (λ _. exact-bind _ _ (exact-one _) (λ _. exact-bind _ _ (group-firm _).exact (λ _. exact-pure _)))))
 
 type_definition-exact : (n : Name) → Exact (type_definition n)
 type_definition-exact n = exact-bind _ _ (exact-one _) (λ _. exact-bind _ _ type_text-exact (λ _. exact-pure _))
@@ -305,11 +332,13 @@ pub instruction_of-firm : (n : Option Name) → Firm (instruction_of n)
 instruction_of-firm n = firm-bind _ _ instruction-firm (λ _. exact-bind _ _ tailed-exact (λ _. exact-pure _))
 
 bound-firm : Firm bound
-bound-firm = firm-bind _ _ (firm-one _) (λ n. exact-bind _ _ (exact-one _) (λ _. exact-where_it _ _ _ (type_definition-exact n) (instruction_of-firm (Some n)).exact))
+bound-firm = firm-bind _ _ (firm-one _) (λ n. exact-bind _ _ (exact-one _) (λ _. exact-where_it _ _ _ (type_definition-exact n)
+    (instruction_of-firm (Some n)).exact))
 
 global-firm : Firm global
-global-firm = firm-bind _ _ (firm-one _) (λ _. exact-bind _ _ (exact-one _) (λ _. exact-bind _ _ skipped-exact (λ _. exact-bind _ _ (exact-one _) (λ _. exact-bind _ _ type_text-exact (λ _.
-    exact-bind _ _ (init_in-firm 64).exact (λ _. exact-bind _ _ global_tailed-exact (λ _. exact-pure _)))))))
+global-firm = firm-bind _ _ (firm-one _) (λ _. exact-bind _ _ (exact-one _)
+    (λ _. exact-bind _ _ skipped-exact (λ _. exact-bind _ _ (exact-one _) (λ _. exact-bind _ _ type_text-exact (λ _.
+    exact-bind _ _ (init_in-firm MAX_NESTING).exact (λ _. exact-bind _ _ global_tailed-exact (λ _. exact-pure _)))))))
 
 optional_local-exact : Exact optional_local
 optional_local-exact = exact-where_it _ _ _ (exact-bind _ _ (exact-one _) (λ _. exact-pure _)) (exact-pure _)
@@ -318,14 +347,17 @@ pub parameter-exact : Exact parameter
 parameter-exact = exact-bind _ _ type_text-exact (λ _. exact-bind _ _ skipped-exact (λ _. exact-bind _ _ optional_local-exact (λ _. exact-pure _)))
 
 parameters-exact : Exact parameters
-parameters-exact = exact-bind _ _ (exact-one _) (λ _. exact-bind _ _ (exact-listed sees_type _ parameter-exact) (λ _. exact-bind _ _ (exact-one _) (λ _. exact-pure _)))
+parameters-exact = exact-bind _ _ (exact-one _) (λ _. exact-bind _ _ (exact-listed sees_type _ parameter-exact)
+    (λ _. exact-bind _ _ (exact-one _) (λ _. exact-pure _)))
 
 declare-firm : Firm declare
-declare-firm = firm-bind _ _ (firm-one _) (λ _. exact-bind _ _ skipped-exact (λ _. exact-bind _ _ result_type-exact (λ _. exact-bind _ _ (exact-one _) (λ _. exact-bind _ _ parameters-exact (λ _.
+declare-firm = firm-bind _ _ (firm-one _) (λ _. exact-bind _ _ skipped-exact
+    (λ _. exact-bind _ _ result_type-exact (λ _. exact-bind _ _ (exact-one _) (λ _. exact-bind _ _ parameters-exact (λ _.
     exact-bind _ _ skipped-exact (λ _. exact-pure _))))))
 
 head-firm : Firm head
-head-firm = firm-bind _ _ (firm-one _) (λ _. exact-bind _ _ skipped-exact (λ _. exact-bind _ _ result_type-exact (λ _. exact-bind _ _ (exact-one _) (λ _. exact-bind _ _ parameters-exact (λ _.
+head-firm = firm-bind _ _ (firm-one _) (λ _. exact-bind _ _ skipped-exact
+    (λ _. exact-bind _ _ result_type-exact (λ _. exact-bind _ _ (exact-one _) (λ _. exact-bind _ _ parameters-exact (λ _.
     exact-bind _ _ head_skipped-exact (λ _. exact-bind _ _ (exact-one _) (λ _. exact-pure _)))))))
 
 item_by-firm : (s : ItemStart) → Firm (item_by s)

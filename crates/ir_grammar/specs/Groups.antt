@@ -1,7 +1,7 @@
 -- Groups in brackets.
 use Rattle.std.specs.Prelude.{◌≡◌, ℕ, Bool, true, ◌||◌, ◌==◌, if◌then◌else◌, List, [], ◌∷◌, ◌++◌, Option, Some, None}
-use Rattle.ir_form.specs.declared.token.TokenKind.{TokenKind}
-use Rattle.ir_form.specs.declared.token.TokenKind.TheVariants as kind
+use Rattle.ir_tokens.specs.declared.token.TokenKind.{TokenKind}
+use Rattle.ir_tokens.specs.declared.token.TokenKind.TheVariants as kind
 use Rattle.ir_grammar.specs.declared.starts.Bracket.{Bracket}
 use Rattle.ir_grammar.specs.declared.starts.Bracket.TheVariants as bracket
 use Rattle.ir_grammar.specs.Lexeme.{Lexeme, Lexemes}
@@ -20,9 +20,10 @@ kind_bracket _ = bracket.Other
 pub data Balanced : Lexemes → Type 0 where
   nothing : Balanced []
   other : (l : Lexeme) (ts : Lexemes) → kind_bracket l.0 ≡ bracket.Other → Balanced ts → Balanced (l ∷ ts)
-  nested : (o c : Lexeme) (b : ℕ) (inner ts : Lexemes) → kind_bracket o.0 ≡ bracket.Opens b → kind_bracket c.0 ≡ bracket.Closes b → Balanced inner → Balanced ts → Balanced (o ∷ (inner ++ (c ∷ ts)))
+  nested : (o c : Lexeme) (b : ℕ) (inner ts : Lexemes) → kind_bracket o.0 ≡ bracket.Opens b → kind_bracket c.0 ≡ bracket.Closes b → Balanced inner
+      → Balanced ts → Balanced (o ∷ (inner ++ (c ∷ ts)))
 
--- a group that is closed by a sign of the class, with rest behind it
+-- a group that is closed by a sign of the class, with rest after it
 pub record IsGroup (class : ℕ → Bool) (ts rest : Lexemes) : Type 0 where
   pub first : Lexeme
   pub last : Lexeme

@@ -1,8 +1,8 @@
 -- Texts that are one instruction.
 use Rattle.std.specs.Prelude.{List, [], Some, None}
-use Rattle.ir_form.specs.Bytes.{Text}
-use Rattle.ir_form.specs.Tokens.{HasTokens}
-use Rattle.ir_form.specs.declared.token.Token.{Token}
+use Rattle.ir_tokens.specs.Bytes.{Text}
+use Rattle.ir_tokens.specs.Tokens.{HasTokens}
+use Rattle.ir_tokens.specs.declared.token.Token.{Token}
 use Rattle.ir_tree.specs.declared.op.Op.{Op}
 use Rattle.ir_tree.specs.declared.item.Item.TheVariants as tree
 use Rattle.ir_grammar.specs.Lexeme.{Lexemes, lexemes}

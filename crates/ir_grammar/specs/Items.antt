@@ -4,7 +4,7 @@ use Rattle.ir_tree.specs.declared.name.Name.{Name}
 use Rattle.ir_tree.specs.declared.type_text.TyText.{TyText}
 use Rattle.ir_tree.specs.declared.item.Item.{Item}
 use Rattle.ir_tree.specs.declared.item.Item.TheVariants as tree
-use Rattle.ir_form.specs.Bytes.{Text}
+use Rattle.ir_tokens.specs.Bytes.{Text}
 use Rattle.ir_grammar.specs.declared.starts.ItemStart.{ItemStart}
 use Rattle.ir_grammar.specs.declared.starts.ItemStart.TheVariants as items
 use Rattle.ir_grammar.specs.Lexeme.{sees_word, sees_local}
@@ -60,7 +60,7 @@ metadata = do
   group
   pure None
 
--- type T, behind Local =
+-- type T, after Local =
 abbrev pub type_definition : Name → Rule SomeItem
 type_definition n = do
   next

@@ -1,11 +1,11 @@
 -- A token with its spelling.
 use Rattle.std.specs.Prelude.{ℕ, Bool, true, false, ◌&&◌, ◌==◌, List, [], ◌∷◌, map, Option, Some, None}
 use Rattle.std.specs.Str.{bytes_eq}
-use Rattle.ir_form.specs.Bytes.{Text}
-use Rattle.ir_form.specs.Tokens.{spelling}
-use Rattle.ir_form.specs.declared.token.Token.{Token}
-use Rattle.ir_form.specs.declared.token.TokenKind.{TokenKind}
-use Rattle.ir_form.specs.declared.token.TokenKind.TheVariants as kind
+use Rattle.ir_tokens.specs.Bytes.{Text}
+use Rattle.ir_tokens.specs.Tokens.{spelling}
+use Rattle.ir_tokens.specs.declared.token.Token.{Token}
+use Rattle.ir_tokens.specs.declared.token.TokenKind.{TokenKind}
+use Rattle.ir_tokens.specs.declared.token.TokenKind.TheVariants as kind
 
 abbrev pub Lexeme : Type 0
 Lexeme = TokenKind × Text

@@ -5,7 +5,7 @@ use Rattle.ir_tree.specs.declared.item.Item.TheVariants as tree
 use Rattle.ir_grammar.specs.Lexeme.{Lexemes}
 use Rattle.ir_grammar.specs.Items.{SomeItem, item}
 
--- labels, instructions and the end of a function stand only between a head and its end
+-- labels, instructions and the end of a function are allowed only between a head and its end
 abbrev pub is_inner : SomeItem → Bool
 is_inner (Some (tree.Label n)) = true
 is_inner (Some (tree.Instr n o)) = true
@@ -17,7 +17,7 @@ abbrev pub is_allowed : Bool → SomeItem → Bool
 is_allowed true x = is_inner x
 is_allowed false x = not (is_inner x)
 
--- whether a function is open behind the item, where it is allowed
+-- whether a function is open after the item, if it is allowed
 abbrev pub leaves_open : SomeItem → Bool
 leaves_open (Some (tree.Head n t ps)) = true
 leaves_open (Some (tree.Label n)) = true
@@ -28,7 +28,7 @@ leaves_open _ = false
 abbrev pub Piece : Type 0
 Piece = SomeItem × ℕ
 
--- The lexemes, the last ones of n in all, begin with these whole allowed items. The flags say whether a function is open before and behind them.
+-- The lexemes, the last ones of n in all, begin with these whole allowed items. The flags say whether a function is open before and after them.
 abbrev pub Front : ℕ → Bool → Lexemes → List Piece → Bool → Lexemes → Type 0
 Front n inside ts [] inside' rest = (inside ≡ inside') × (ts ≡ rest)
 Front n inside ts (p ∷ ps) inside' rest =
@@ -46,7 +46,7 @@ kept_starts [] = []
 kept_starts ((None, at) ∷ ps) = kept_starts ps
 kept_starts ((Some x, at) ∷ ps) = at ∷ kept_starts ps
 
--- All lexemes are whole items, each allowed where it stands, and no function is open behind them. These are the ones that the tree keeps, and where each begins.
+-- All lexemes are whole items, each allowed at its place, and no function is open after them. These are the ones that the tree keeps, and where each begins.
 pub record IsModule (ts : Lexemes) (items : List Item) (starts : List ℕ) : Type 0 where
   pub pieces : List Piece
   pub whole : Front (length ts) false ts pieces false []
@@ -58,7 +58,7 @@ pub record Stops (inside : Bool) (rest : Lexemes) : Type 0 where
   pub none : (x : SomeItem) (mid : Lexemes) → item.reads rest x mid → is_allowed inside x ≡ true → ⊥
   pub open_end : rest ≡ [] → inside ≡ true
 
--- so many lexemes stand before the first place where no allowed item begins
+-- the number of lexemes before the first place where no allowed item begins
 pub record IsUnread (ts : Lexemes) (at : ℕ) : Type 0 where
   pub pieces : List Piece
   pub inside : Bool

@@ -1,5 +1,6 @@
 -- Operands and initialisers.
 use Rattle.std.specs.Prelude.{ℕ, zero, suc, ℤ}
+use Rattle.am_base.specs.declared.limits.TheConstants.{MAX_NESTING}
 use Rattle.ir_tree.specs.declared.type_text.TyText.{TyText}
 use Rattle.ir_tree.specs.declared.operand.Opd.{Opd}
 use Rattle.ir_tree.specs.declared.operand.Opd.TheVariants as opd
@@ -33,7 +34,7 @@ get_constant = do
   name ← global_name
   indices ← further sees_type constant_index
   sign 41
-  pure (opd.Get of base name indices)
+  pure (opd.Get (of, base, name, indices))
 
 abbrev pub operand_by : OperandStart → Rule Opd
 operand_by operands.Local = local >>= (λ n. pure (opd.Local n))
@@ -103,4 +104,4 @@ init_in (suc depth) = init_nested (init_in depth)
 
 -- init
 abbrev pub initialiser : Rule Init
-initialiser = init_in 64
+initialiser = init_in MAX_NESTING

@@ -4,7 +4,7 @@ use Rattle.am_base.specs.declared.word.BinOp.{BinOp}
 use Rattle.am_base.specs.declared.word.Cast.{Cast}
 use Rattle.am_base.specs.declared.word.Pred.{Pred}
 use Rattle.am_base.specs.declared.word.Pred.TheVariants as pred
-use Rattle.ir_form.specs.Bytes.{Text}
+use Rattle.ir_tokens.specs.Bytes.{Text}
 use Rattle.ir_tree.specs.declared.name.Name.{Name}
 use Rattle.ir_tree.specs.declared.type_text.TyText.{TyText}
 use Rattle.ir_tree.specs.declared.operand.Opd.{Opd}

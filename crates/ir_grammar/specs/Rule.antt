@@ -83,7 +83,7 @@ sign b = one (sign_of b)
 abbrev pub comma_then : (Lexemes → Bool) → Lexemes → Bool
 comma_then begins ts = sees_sign 44 ts && begins (behind ts)
 
--- , X, .. as long as a comma comes and an X begins behind it
+-- , X, .. as long as a comma comes and an X begins after it
 abbrev pub further : {A : Type 0} → (Lexemes → Bool) → Rule A → Rule (List A)
 further begins p = many (comma_then begins) (sign 44 >> p)
 
@@ -100,6 +100,6 @@ listed begins p = where_it begins (some_listed begins p) (pure [])
 
 -- ---- readings of a loop
 
--- the same list behind some values that were read before
+-- the same list after some values that were read before
 abbrev pub onto : {A : Type 0} → List A → Option (List A × Lexemes) → Option (List A × Lexemes)
 onto front o = and_then o (λ xs. Some (front ++ xs.0, xs.1))

@@ -1,6 +1,6 @@
 -- Words, groups and tails that are read without effect.
 use Rattle.std.specs.Prelude.{Bool, ◌&&◌, List}
-use Rattle.ir_form.specs.Bytes.{Text}
+use Rattle.ir_tokens.specs.Bytes.{Text}
 use Rattle.ir_grammar.specs.declared.starts.SkipStart.{SkipStart}
 use Rattle.ir_grammar.specs.declared.starts.SkipStart.TheVariants as skips
 use Rattle.ir_grammar.specs.declared.starts.FlagStart.{FlagStart}

@@ -1,4 +1,4 @@
--- What a part of an item begins with. One token decides, or two where the first is a comma.
+-- Which part of an item a token starts. One token decides, or two if the first is a comma.
 use Rattle.std.specs.Prelude.{ℕ, Bool, true, false, not, ◌&&◌, ◌||◌, ◌==◌, if◌then◌else◌, List, [], ◌∷◌, ◌++◌, drop, codes, Option, Some}
 use Rattle.std.specs.Char.{is_ascii_digit, is_ascii_lowercase}
 use Rattle.std.specs.List.{list_all}
@@ -6,10 +6,10 @@ use Rattle.std.specs.Str.{bytes_eq}
 use Rattle.am_base.specs.declared.word.Width.TheVariants as width
 use Rattle.am_base.specs.declared.word.BinOp.TheVariants as binary
 use Rattle.am_base.specs.declared.word.Cast.TheVariants as cast
-use Rattle.ir_form.specs.Bytes.{Text}
-use Rattle.ir_form.specs.Front.{is_digits, begins}
-use Rattle.ir_form.specs.declared.token.TokenKind.{TokenKind}
-use Rattle.ir_form.specs.declared.token.TokenKind.TheVariants as kind
+use Rattle.ir_tokens.specs.Bytes.{Text, begins}
+use Rattle.ir_tokens.specs.Tokens.{is_digits}
+use Rattle.ir_tokens.specs.declared.token.TokenKind.{TokenKind}
+use Rattle.ir_tokens.specs.declared.token.TokenKind.TheVariants as kind
 use Rattle.ir_grammar.specs.declared.starts.TypeStart.{TypeStart}
 use Rattle.ir_grammar.specs.declared.starts.TypeStart.TheVariants as types
 use Rattle.ir_grammar.specs.declared.starts.OperandStart.{OperandStart}
@@ -216,7 +216,7 @@ is_flag _ = true
 unfoldable pub sees_flag : Lexemes → Bool
 sees_flag ts = is_flag (flag_start ts)
 
--- ---- what stands behind an instruction or a global
+-- ---- parts after an instruction or a global
 
 abbrev pub tail_word : Text → TailStart
 tail_word s =
@@ -235,7 +235,7 @@ tail_at _ more = tails.Nothing
 unfoldable pub tail_start : Lexemes → TailStart
 tail_start ts = tail_at (first_kind ts) (behind ts)
 
--- , align and , Meta stand behind an instruction
+-- , align and , Meta may follow an instruction
 abbrev pub is_tail : TailStart → Bool
 is_tail tails.Align = true
 is_tail tails.Meta = true
@@ -244,7 +244,7 @@ is_tail _ = false
 unfoldable pub sees_tail : Lexemes → Bool
 sees_tail ts = is_tail (tail_start ts)
 
--- and these, , section and a Hash behind a global
+-- and these, , section and a Hash may follow a global
 abbrev pub is_global_tail : TailStart → Bool
 is_global_tail tails.Nothing = false
 is_global_tail _ = true

@@ -1,5 +1,6 @@
 -- Types.
 use Rattle.std.specs.Prelude.{ℕ, zero, suc, codes}
+use Rattle.am_base.specs.declared.limits.TheConstants.{MAX_NESTING}
 use Rattle.ir_tree.specs.declared.type_text.TyText.{TyText}
 use Rattle.ir_tree.specs.declared.type_text.TyText.TheVariants as ty
 use Rattle.ir_grammar.specs.declared.starts.TypeStart.{TypeStart}
@@ -47,7 +48,7 @@ type_in (suc depth) = look type_start (nested (type_in depth))
 
 -- T
 abbrev pub type_text : Rule TyText
-type_text = type_in 64
+type_text = type_in MAX_NESTING
 
 -- R = T | void
 abbrev pub result_type : Rule TyText

@@ -1,11 +1,11 @@
--- What single lexemes stand for: names, numbers, quoted texts, and the words of the language.
+-- The values of single lexemes: names, numbers, quoted texts, and the words of the language.
 use Rattle.std.specs.Prelude.{ℕ, ◌-◌, ◌^◌, nat_le, Bool, false, ◌&&◌, ◌||◌, ◌==◌, if◌then◌else◌, List, [], ◌∷◌, drop, Option, Some, None, ℤ, pos, neg_ℤ}
 use Rattle.std.specs.Str.{bytes_eq}
 use Rattle.std.specs.Str.Parse.{digits_value}
-use Rattle.ir_form.specs.Bytes.{Text, is_quote}
-use Rattle.ir_form.specs.Front.{is_digits, is_small_number, begins}
-use Rattle.ir_form.specs.Names.{name_part, quoted_value}
-use Rattle.ir_form.specs.declared.token.TokenKind.TheVariants as kind
+use Rattle.ir_tokens.specs.Bytes.{Text, is_quote, begins}
+use Rattle.ir_tokens.specs.Tokens.{is_digits, is_small_number}
+use Rattle.ir_tokens.specs.Names.{NameValue, Number, Bytes, name_part, quoted_value}
+use Rattle.ir_tokens.specs.declared.token.TokenKind.TheVariants as kind
 use Rattle.ir_tree.specs.declared.name.Name.{Name}
 use Rattle.ir_tree.specs.declared.name.Name.TheVariants as name
 use Rattle.ir_grammar.specs.Lexeme.{Lexeme}
@@ -13,12 +13,17 @@ use Rattle.ir_grammar.specs.Rule.{Rule, one}
 
 -- ---- names
 
--- What a name's bytes stand for. Digits whose value isn't below 2 ^ 32 are no name, and no token has such a name.
+-- The name that bytes denote; the law `names_read` ties it to their meaning. Digits whose value isn't below 2 ^ 32 are no name, and no token has such a name.
 unfoldable pub name_of : Text → Option Name
 name_of s =
     if is_small_number s then Some (name.Number (digits_value 10 s))
     else (if is_digits s then None
     else (if begins is_quote s then Some (name.Text (quoted_value s)) else Some (name.Text s)))
+
+-- the name as the value that a token's bytes stand for
+abbrev pub denoted : Name → NameValue
+denoted (name.Number n) = Number n
+denoted (name.Text s) = Bytes s
 
 abbrev pub local_of : Lexeme → Option Name
 local_of (kind.Local, s) = name_of (drop 1 s)
@@ -53,7 +58,7 @@ digits_of s = if begins is_minus s then drop 1 s else s
 abbrev pub magnitude : Text → ℕ
 magnitude s = digits_value 10 (digits_of s)
 
--- the whole number that digits with at most one `-` before them stand for
+-- the value of digits with at most one `-` before them
 abbrev pub whole_value : Text → ℤ
 whole_value s = if begins is_minus s then neg_ℤ (pos (magnitude s)) else pos (magnitude s)
 
@@ -86,7 +91,7 @@ quoted_of _ = None
 abbrev pub quoted : Rule (Unit {0})
 quoted = one quoted_of
 
--- the bytes that a CString stands for
+-- the value of a CString
 abbrev pub cstring_of : Lexeme → Option Text
 cstring_of (kind.CString, s) = Some (quoted_value (drop 1 s))
 cstring_of _ = None

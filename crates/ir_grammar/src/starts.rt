@@ -1,6 +1,7 @@
+//! Which part of an item a token starts.
 use am_base::{BinOp, Cast, Width};
 
-/// What a token is among brackets. An opening one has the sign that closes it.
+/// The role of a token among brackets. An opening bracket has the sign that closes it.
 #[derive(Clone, Copy, Debug, PartialEq, Eq)]
 pub enum Bracket {
     Opens(u8),
@@ -8,7 +9,7 @@ pub enum Bracket {
     Other,
 }
 
-/// What a type begins with, by its first token.
+/// The forms of types, by the first token.
 #[derive(Clone, Copy, Debug, PartialEq, Eq)]
 pub enum TypeStart {
     /// `i1`, `i8`, `i16`, `i32` or `i64`.
@@ -21,11 +22,11 @@ pub enum TypeStart {
     Curly,
     /// A Local.
     Named,
-    /// No type begins with this token.
+    /// The token starts no type.
     Nothing,
 }
 
-/// What an operand begins with, by its first token.
+/// The forms of operands, by the first token.
 #[derive(Clone, Copy, Debug, PartialEq, Eq)]
 pub enum OperandStart {
     Local,
@@ -39,11 +40,11 @@ pub enum OperandStart {
     Zero,
     /// `getelementptr`.
     Get,
-    /// No operand begins with this token.
+    /// The token starts no operand.
     Nothing,
 }
 
-/// What a word, or a pair of words, that is skipped begins with.
+/// The skipped parts, by the first token.
 #[derive(Clone, Copy, Debug, PartialEq, Eq)]
 pub enum SkipStart {
     /// An attribute word.
@@ -52,24 +53,24 @@ pub enum SkipStart {
     Align,
     Quoted,
     Hash,
-    /// `!` and a run, which is skipped in the head of a function alone.
+    /// `!` and a run, skipped only in the head of a function.
     Meta,
-    /// Nothing that is skipped begins with this token.
+    /// The token starts no skipped part.
     Nothing,
 }
 
-/// What a flag of `getelementptr` begins with.
+/// The flags of `getelementptr`, by the first token.
 #[derive(Clone, Copy, Debug, PartialEq, Eq)]
 pub enum FlagStart {
     /// `inbounds`, `nusw` or `nuw`.
     Plain,
-    /// `inrange`, with a group behind it.
+    /// `inrange`, and a group after it.
     InRange,
-    /// No such flag begins with this token.
+    /// The token starts no such flag.
     Nothing,
 }
 
-/// What stands behind an instruction or a global, by its first two tokens.
+/// The parts after an instruction or a global, by the first two tokens.
 #[derive(Clone, Copy, Debug, PartialEq, Eq)]
 pub enum TailStart {
     /// `,` and `align`.
@@ -80,11 +81,11 @@ pub enum TailStart {
     Meta,
     /// A Hash.
     Hash,
-    /// Nothing that may stand there begins with these tokens.
+    /// The tokens start no such part.
     Nothing,
 }
 
-/// What an instruction without its result begins with, by its first token.
+/// The instructions without a result, by the first token.
 #[derive(Clone, Copy, Debug, PartialEq, Eq)]
 pub enum OpStart {
     Bin(BinOp),
@@ -98,7 +99,7 @@ pub enum OpStart {
     /// `getelementptr`.
     Get,
     Phi,
-    /// `tail`, `musttail` or `notail`, with `call` behind it.
+    /// `tail`, `musttail` or `notail`, and `call` after it.
     TailCall,
     Call,
     /// `br`.
@@ -106,11 +107,11 @@ pub enum OpStart {
     Switch,
     Ret,
     Unreachable,
-    /// No instruction begins with this token.
+    /// The token starts no instruction.
     Nothing,
 }
 
-/// What an item begins with, by its first token.
+/// The items, by the first token.
 #[derive(Clone, Copy, Debug, PartialEq, Eq)]
 pub enum ItemStart {
     /// `source_filename`.

@@ -1,8 +1,8 @@
--- What `lex` answers of a text.
+-- The results of `lex`.
 use Rattle.std.specs.Prelude.{◌≡◌, ◌++◌, ℕ}
-use Rattle.ir_form.specs.declared.token.TokenKind.{TokenKind}
-use Rattle.ir_form.specs.Bytes.{Text}
-use Rattle.ir_form.specs.Tokens.{IsToken, BadByte, OpenQuote, FaultAt, HasFault}
+use Rattle.ir_tokens.specs.declared.token.TokenKind.{TokenKind}
+use Rattle.ir_tokens.specs.Bytes.{Text}
+use Rattle.ir_tokens.specs.Tokens.{IsToken, BadByte, OpenQuote, FaultAt, HasFault}
 use Rattle.ir_lexer.specs.declared.error.LexError.{LexError}
 use Rattle.ir_lexer.specs.declared.error.LexError.TheVariants as error
 

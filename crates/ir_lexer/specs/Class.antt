@@ -1,7 +1,7 @@
 -- The bytes of a class.
 use Rattle.std.specs.Prelude.{ℕ, Bool, not}
 use Rattle.std.specs.Char.{is_ascii_digit}
-use Rattle.ir_form.specs.Bytes.{is_quote, is_run_byte, is_meta_byte}
+use Rattle.ir_tokens.specs.Bytes.{is_quote, is_run_byte, is_meta_byte}
 use Rattle.ir_lexer.specs.declared.class.Class.{Class}
 use Rattle.ir_lexer.specs.declared.class.Class.TheVariants.{Run, Meta, Digit, Body}
 

@@ -1,8 +1,9 @@
-ghost use Rattle.ir_form.specs.Bytes as bytes;
+//! Classes of bytes.
+ghost use Rattle.ir_tokens.specs.Bytes as bytes;
 ghost use Rattle.std.specs.List.{prefix_len};
 ghost use Rattle.std.specs.Prelude.{length, ◌≡◌, ◌≤◌};
 
-/// The classes of bytes of which a token has a longest sequence.
+/// The classes of bytes that a token may have a longest run of.
 #[derive(Clone, Copy)]
 pub enum Class {
     /// Letters, digits, `-`, `$`, `.` and `_`.
@@ -28,7 +29,7 @@ impl Class {
         }
     }
 
-    /// How many bytes of the class stand at the front of the text.
+    /// The number of bytes of the class at the front of the text.
     pub fn prefix_len(self, text: &[u8]) -> usize
         ensures value { result ≡ prefix_len (holds self) text.now }
         ensures within { result ≤ length text.now }

@@ -1,20 +1,20 @@
+//! The refusals of `lex`.
 use std::alloc::AllocFailed;
 use thiserror::Error;
 
 /// Why `lex` gives no tokens.
 #[derive(Clone, Copy, Debug, PartialEq, Eq, Error)]
 pub enum LexError {
-    /// A byte that begins no token, also a `%`, `@` or `#` that isn't followed as its token has to
-    /// be.
+    /// A byte that begins no token; also a `%`, `@` or `#` without a name or digits after it.
     #[error("no token begins at byte {at}")]
     BadByte {
-        /// The place of the byte, from 0.
+        /// The offset of the byte, from 0.
         at: u32,
     },
-    /// A `"` with no closing one behind it.
+    /// A `"` that no later one closes.
     #[error("no quote closes the one at byte {at}")]
     OpenQuote {
-        /// The place of the `"`, from 0.
+        /// The offset of the `"`, from 0.
         at: u32,
     },
     #[error("out of memory")]

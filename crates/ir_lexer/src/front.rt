@@ -1,12 +1,13 @@
-ghost use Rattle.ir_form.specs.Bytes as bytes;
-ghost use Rattle.ir_form.specs.Front as spec;
-ghost use Rattle.ir_form.specs.Tokens.{NoToken};
+//! The token at the front of a text.
+ghost use Rattle.ir_tokens.specs.Bytes as bytes;
+ghost use Rattle.ir_tokens.specs.Front as spec;
+ghost use Rattle.ir_tokens.specs.Tokens.{NoToken};
 ghost use Rattle.ir_lexer.specs.Answer.{Follows};
 ghost use Rattle.std.specs.Prelude.{IfNone, IfSome, length, ◌+◌, ◌<◌, ◌≡◌, ◌≤◌, ◌^◌};
 
 use crate::class::Class;
 use crate::parts::{begins_colon, is_label_name, is_number, name_len, quoted_len};
-use ir_form::TokenKind;
+use ir_tokens::TokenKind;
 
 fn is_sign(b: u8) -> bool
     ensures { result ≡ bytes.is_sign b }
@@ -23,8 +24,8 @@ fn is_c(run: &[u8]) -> bool
     matches!(run, [b'c'])
 }
 
-/// The token that begins with the run, which rest follows, and its length.
-#[tactic(auto, unfolding(ir_form::specs::Front::run_token))]
+/// The token that begins with the run, if `rest` follows it, and its length in bytes.
+#[tactic(auto, unfolding(ir_tokens::specs::Front::run_token))]
 fn run_token(run: &[u8], rest: &[u8]) -> (TokenKind, usize)
     requires { length run.now + length rest.now < 2 ^ 62 }
     ensures { result ≡ spec.run_token run.now rest.now }
@@ -43,8 +44,8 @@ fn run_token(run: &[u8], rest: &[u8]) -> (TokenKind, usize)
     }
 }
 
-/// The token that begins with a quoted text of so many bytes, which rest follows, and its length.
-#[tactic(auto, unfolding(ir_form::specs::Front::quoted_token))]
+/// The token that begins with a quoted text of `len` bytes, if `rest` follows it, and its length.
+#[tactic(auto, unfolding(ir_tokens::specs::Front::quoted_token))]
 fn quoted_token(len: usize, rest: &[u8]) -> Option<(TokenKind, usize)>
     requires { len < 2 ^ 62 }
     ensures { result ≡ spec.quoted_token len rest.now }
@@ -65,8 +66,8 @@ fn behind_mark(kind: TokenKind, len: usize) -> Option<(TokenKind, usize)>
     if len > 0 { Some((kind, len + 1)) } else { None }
 }
 
-/// The token that begins with the byte, neither a run's nor a quote, and its length.
-#[tactic(auto, unfolding(ir_form::specs::Front::marked_token))]
+/// The token that begins with the byte, neither one of a run nor a quote, and its length.
+#[tactic(auto, unfolding(ir_tokens::specs::Front::marked_token))]
 fn marked_token(first: u8, rest: &[u8]) -> Option<(TokenKind, usize)>
     requires { length rest.now < 2 ^ 62 }
     ensures { result ≡ spec.marked_token first rest.now }
@@ -86,8 +87,8 @@ fn marked_token(first: u8, rest: &[u8]) -> Option<(TokenKind, usize)>
     }
 }
 
-/// The token at the front, and its length.
-#[tactic(auto, unfolding(ir_form::specs::Front::token))]
+/// The token at the front, and its length in bytes.
+#[tactic(auto, unfolding(ir_tokens::specs::Front::token))]
 fn token(text: &[u8]) -> Option<(TokenKind, usize)>
     requires { length text.now < 2 ^ 61 }
     ensures { result ≡ spec.token text.now }
@@ -109,7 +110,7 @@ fn token(text: &[u8]) -> Option<(TokenKind, usize)>
     }
 }
 
-/// The kind of the token at the front, and what follows it.
+/// The kind of the token at the front, and the rest of the text.
 pub fn next(text: &[u8]) -> Option<(TokenKind, &[u8])>
     requires { length text.now < 2 ^ 61 }
     ensures some { IfSome result (λ t. Follows text.now t.0 t.1.now) }

@@ -1,12 +1,14 @@
-ghost use Rattle.ir_form.specs.Bytes as bytes;
-ghost use Rattle.ir_form.specs.Front as spec;
-ghost use Rattle.ir_form.specs.Tokens.{HasTokens};
+//! Cuts a text into tokens.
+ghost use Rattle.ir_tokens.specs.Bytes as bytes;
+ghost use Rattle.ir_tokens.specs.Front as spec;
+ghost use Rattle.ir_tokens.specs.Tokens.{HasTokens};
 ghost use Rattle.ir_lexer.specs.Answer.{NamesFault, NamesFront};
 ghost use Rattle.std.specs.Prelude.{IfErr, IfOk, length, ◌<◌, ◌≡◌, ◌≤◌};
 
 use crate::error::LexError;
 use crate::front::next;
-use ir_form::Token;
+use am_base::MAX_FILE_BYTES;
+use ir_tokens::Token;
 use std::alloc::Global;
 
 fn is_separator(b: u8) -> bool
@@ -15,8 +17,8 @@ fn is_separator(b: u8) -> bool
     matches!(b, b'\t' | b'\n' | b'\r' | b' ')
 }
 
-/// The text behind the separators and comments at its front.
-#[tactic(auto, unfolding(ir_form::specs::Front::skip))]
+/// The text without the separators and comments at its front.
+#[tactic(auto, unfolding(ir_tokens::specs::Front::skip))]
 fn skip(mut text: &[u8]) -> &[u8]
     ensures value { result.now ≡ spec.skip text.entry.now }
     ensures within { length result.now ≤ length text.entry.now }
@@ -47,18 +49,17 @@ fn fault(left: &[u8], at: u32) -> LexError
     }
 }
 
-/// Cuts a text of at most 4,194,304 bytes into its tokens, in the order of the text.
+/// Cuts a text of at most `MAX_FILE_BYTES` bytes into its tokens, in the order of the text.
 ///
-/// The answer is the one list of tokens that the text has, each as long as it can be at its place,
-/// or the first fault, with the place of its byte from 0: `OpenQuote` at a `"` that no other closes,
-/// and `BadByte` at any other byte where no token, separator or comment begins. `OutOfMemory` comes
-/// where no memory is found for the list, at any text. It takes time linear in the text, and copies
-/// none of it.
+/// Returns the one list of tokens that the text has, each the longest at its offset, or the first
+/// fault, with the offset of its byte from 0: `OpenQuote` at a `"` that no later one closes, and
+/// `BadByte` at any other byte where no token, separator or comment begins. `OutOfMemory` may come
+/// at any text. O(n) in the bytes; none is copied.
 ///
 /// The rules are this project's own. Names, numbers and quoted texts follow the LLVM Language
 /// Reference, section "Identifiers".
 pub fn lex(alloc: Global, text: &[u8]) -> Result<Vec<Token>, LexError>
-    requires { length text.now ≤ 4194304 }
+    requires { length text.now ≤ MAX_FILE_BYTES }
     ensures tokens { IfOk result (λ tokens. HasTokens text.now tokens.items) }
     ensures fault { IfErr result (NamesFault text.now) }
 {

@@ -1,13 +1,15 @@
-ghost use Rattle.ir_form.specs.Bytes.{is_colon, is_quote};
-ghost use Rattle.ir_form.specs.Front as spec;
+//! The parts of tokens: runs, quoted texts and names.
+ghost use Rattle.ir_tokens.specs.Bytes.{begins, is_colon, is_quote};
+ghost use Rattle.ir_tokens.specs.Front as spec;
+ghost use Rattle.ir_tokens.specs.Tokens.{is_small_number};
 ghost use Rattle.std.specs.Char.{is_ascii_digit};
 ghost use Rattle.std.specs.Prelude.{length, ◌<◌, ◌≡◌, ◌≤◌, ◌^◌};
 
 use crate::class::Class;
-use ir_form::{is_digits, small_number};
+use ir_tokens::{is_digits, small_number};
 
-/// The bytes of the quoted text at the front, and 0 where there is none.
-#[tactic(auto, unfolding(ir_form::specs::Front::quoted_len))]
+/// The length in bytes of the quoted text at the front; 0 if there is none.
+#[tactic(auto, unfolding(ir_tokens::specs::Front::quoted_len))]
 pub fn quoted_len(text: &[u8]) -> usize
     requires { length text.now < 2 ^ 62 }
     ensures value { result ≡ spec.quoted_len text.now }
@@ -22,23 +24,23 @@ pub fn quoted_len(text: &[u8]) -> usize
     }
 }
 
-/// Whether a `"` stands at the front.
+/// Whether the text begins with a `"`.
 pub fn begins_quote(text: &[u8]) -> bool
-    ensures { result ≡ spec.begins is_quote text.now }
+    ensures { result ≡ begins is_quote text.now }
 {
     matches!(text, [b'"', ..])
 }
 
-/// Whether a `:` stands at the front.
+/// Whether the text begins with a `:`.
 pub fn begins_colon(text: &[u8]) -> bool
-    ensures { result ≡ spec.begins is_colon text.now }
+    ensures { result ≡ begins is_colon text.now }
 {
     matches!(text, [b':', ..])
 }
 
-/// Whether a digit stands at the front.
+/// Whether the text begins with a digit.
 fn begins_digit(text: &[u8]) -> bool
-    ensures { result ≡ spec.begins is_ascii_digit text.now }
+    ensures { result ≡ begins is_ascii_digit text.now }
 {
     match text {
         [b, ..] => b.is_ascii_digit(),
@@ -48,19 +50,19 @@ fn begins_digit(text: &[u8]) -> bool
 
 /// Whether the run is the digits of a number below 2^32.
 fn is_small_number(text: &[u8]) -> bool
-    ensures { result ≡ spec.is_small_number text.now }
+    ensures { result ≡ is_small_number text.now }
 {
     small_number(text).is_some()
 }
 
-/// Whether the run may stand behind a `%` or `@`.
+/// Whether the run may be the name after a `%` or `@`.
 fn is_name(run: &[u8]) -> bool
     ensures { result ≡ spec.is_name run.now }
 {
     is_small_number(run) || !begins_digit(run)
 }
 
-/// Whether the run may stand before the `:` of a label.
+/// Whether the run may be the name before the `:` of a label.
 pub fn is_label_name(run: &[u8]) -> bool
     ensures { result ≡ spec.is_label_name run.now }
 {
@@ -77,8 +79,8 @@ pub fn is_number(run: &[u8]) -> bool
     }
 }
 
-/// The bytes of the name at the front, a run or a quoted text, and 0 where there is none.
-#[tactic(auto, unfolding(ir_form::specs::Front::name_len))]
+/// The length in bytes of the name at the front, a run or a quoted text; 0 if there is none.
+#[tactic(auto, unfolding(ir_tokens::specs::Front::name_len))]
 pub fn name_len(text: &[u8]) -> usize
     requires { length text.now < 2 ^ 62 }
     ensures value { result ≡ spec.name_len text.now }

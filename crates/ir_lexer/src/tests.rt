@@ -1,7 +1,9 @@
+//! Tests of `lex`.
 use super::*;
 use TokenKind::{
     CString, Global as GlobalName, Hash, Label, Local, Meta, Number, Quoted, Sign, Word,
 };
+use am_base::MAX_FILE_BYTES;
 use std::alloc::Global;
 use std::fmt::Write;
 use std::process::Abort;
@@ -9,7 +11,7 @@ use std::test::Fail;
 
 /// The tokens of the text, each as its kind and its bytes.
 fn rendered(rt: &impl Abort, alloc: Global, text: &str) -> Result<String, Fail> {
-    assert!(rt; text.len() <= 4_194_304);
+    assert!(rt; text.len() <= MAX_FILE_BYTES);
     let mut out = String::new(alloc);
     for token in &lex(alloc, text.as_bytes())? {
         let spelling = text
@@ -23,7 +25,7 @@ fn rendered(rt: &impl Abort, alloc: Global, text: &str) -> Result<String, Fail> 
 /// Asserts that the text has this fault.
 fn expect_fault(rt: &impl Abort, alloc: Global, text: &str, want: LexError) {
     let bytes = text.as_bytes();
-    assert!(rt; bytes.len() <= 4_194_304);
+    assert!(rt; bytes.len() <= MAX_FILE_BYTES);
     assert_eq!(rt; lex(alloc, bytes).err(), Some(want), "in {text:?}");
 }
 
@@ -40,7 +42,8 @@ fn tokens_of_names_and_labels(rt: HostRuntime) -> Result<(), Fail> {
     let cases = [
         (
             "%a %007 %4294967295 %00000000000000000001 %-5 %a-b %\"\" %5:",
-            "Local %a Local %007 Local %4294967295 Local %00000000000000000001 Local %-5 Local %a-b Local %\"\" Local %5 Sign(58) : ",
+            "Local %a Local %007 Local %4294967295 Local %00000000000000000001 Local %-5 Local \
+             %a-b Local %\"\" Local %5 Sign(58) : ",
         ),
         (
             "@.str.1 @$a_b @7 @\"x y\"",
@@ -48,11 +51,13 @@ fn tokens_of_names_and_labels(rt: HostRuntime) -> Result<(), Fail> {
         ),
         (
             "5: 007: -5: 1abc: a.b: \"a\":\"\": a :",
-            "Label 5: Label 007: Label -5: Label 1abc: Label a.b: Label \"a\": Label \"\": Word a Sign(58) : ",
+            "Label 5: Label 007: Label -5: Label 1abc: Label a.b: Label \"a\": Label \"\": Word \
+             a Sign(58) : ",
         ),
         (
             "4294967295: 4294967296: 00000000004294967295: 00000000004294967296:",
-            "Label 4294967295: Number 4294967296 Sign(58) : Label 00000000004294967295: Number 00000000004294967296 Sign(58) : ",
+            "Label 4294967295: Number 4294967296 Sign(58) : Label 00000000004294967295: Number \
+             00000000004294967296 Sign(58) : ",
         ),
     ];
     expect_tokens(&rt, rt.alloc(), &cases)
@@ -63,7 +68,8 @@ fn tokens_of_quotes_words_and_signs(rt: HostRuntime) -> Result<(), Fail> {
     let cases = [
         (
             "c\"a\\00\" c\"\": c \"a\" xc\"a\" c: c",
-            "CString c\"a\\00\" CString c\"\" Sign(58) : Word c Quoted \"a\" Word xc Quoted \"a\" Label c: Word c ",
+            "CString c\"a\\00\" CString c\"\" Sign(58) : Word c Quoted \"a\" Word xc Quoted \
+             \"a\" Label c: Word c ",
         ),
         (
             "\"a\\22b\" \"a\\\" b \"a;\nb\"",
@@ -71,15 +77,18 @@ fn tokens_of_quotes_words_and_signs(rt: HostRuntime) -> Result<(), Fail> {
         ),
         (
             "0 -1 00 --1 - 1- 1.5 x $ 99999999999999999999",
-            "Number 0 Number -1 Number 00 Word --1 Word - Word 1- Word 1.5 Word x Word $ Number 99999999999999999999 ",
+            "Number 0 Number -1 Number 00 Word --1 Word - Word 1- Word 1.5 Word x Word $ Number \
+             99999999999999999999 ",
         ),
         (
             "#0 #0abc #12345678901234567890 !0 !{ !\"a\" !llvm.ident !a\\3Ab ! !!",
-            "Hash #0 Hash #0 Word abc Hash #12345678901234567890 Meta !0 Meta ! Sign(123) { Meta ! Quoted \"a\" Meta !llvm.ident Meta !a\\3Ab Meta ! Meta ! Meta ! ",
+            "Hash #0 Hash #0 Word abc Hash #12345678901234567890 Meta !0 Meta ! Sign(123) { Meta \
+             ! Quoted \"a\" Meta !llvm.ident Meta !a\\3Ab Meta ! Meta ! Meta ! ",
         ),
         (
             "()[]{}<>,=*:|",
-            "Sign(40) ( Sign(41) ) Sign(91) [ Sign(93) ] Sign(123) { Sign(125) } Sign(60) < Sign(62) > Sign(44) , Sign(61) = Sign(42) * Sign(58) : Sign(124) | ",
+            "Sign(40) ( Sign(41) ) Sign(91) [ Sign(93) ] Sign(123) { Sign(125) } Sign(60) < \
+             Sign(62) > Sign(44) , Sign(61) = Sign(42) * Sign(58) : Sign(124) | ",
         ),
         ("; a \" ~ \n b;c;d\n\te\r;", "Word b Word e "),
         ("", ""),
@@ -87,7 +96,7 @@ fn tokens_of_quotes_words_and_signs(rt: HostRuntime) -> Result<(), Fail> {
     expect_tokens(&rt, rt.alloc(), &cases)
 }
 
-/// Bytes of no text in ASCII are a fault alone, and stand in quotes and comments.
+/// Bytes outside ASCII are a fault by themselves, and allowed in quotes and comments.
 #[test]
 fn bytes_of_quoted_texts_and_comments(rt: HostRuntime) -> Result<(), Fail> {
     for byte in [0, 0x7f, 0x80, 0xff] {
@@ -180,7 +189,7 @@ attributes #0 = { noinline nounwind optnone uwtable \"frame-pointer\"=\"all\" }\
 
 #[test]
 fn kinds_of_a_module(rt: HostRuntime) -> Result<(), Fail> {
-    assert!(rt; MAX.len() <= 4_194_304);
+    assert!(rt; MAX.len() <= MAX_FILE_BYTES);
     let tokens = lex(rt.alloc(), MAX.as_bytes())?;
     let counts = [
         (Local, 27),
@@ -208,11 +217,16 @@ fn kinds_of_a_module(rt: HostRuntime) -> Result<(), Fail> {
     Ok(())
 }
 
-/// Texts of the greatest length, which are done in linear time.
+/// Texts of the greatest length, cut in linear time.
 #[test]
 fn longest_texts(rt: HostRuntime) -> Result<(), Fail> {
-    for (byte, want) in [(b' ', 0), (b'0', 1), (b'"', 2_097_152), (b'!', 4_194_304)] {
-        let text = vec![in rt.alloc(); byte; 4_194_304]?;
+    for (byte, want) in [
+        (b' ', 0),
+        (b'0', 1),
+        (b'"', 2_097_152),
+        (b'!', MAX_FILE_BYTES),
+    ] {
+        let text = vec![in rt.alloc(); byte; MAX_FILE_BYTES]?;
         assert_eq!(rt; lex(rt.alloc(), &text)?.len(), want, "of byte {byte}");
     }
     Ok(())

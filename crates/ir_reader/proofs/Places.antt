@@ -1,10 +1,10 @@
 -- Where the tokens of a text lie, and how many there are.
 use Rattle.std.proofs.Common.{◌≡◌, ℕ, ◌+◌, ◌-◌, ◌<◌, ◌≤◌, List, [], ◌∷◌, length, slice_index_or, arith}
-use Rattle.ir_form.specs.declared.token.Token.{Token}
-use Rattle.ir_form.specs.Bytes.{Text}
-use Rattle.ir_form.specs.Tokens.{HasTokens, Rise}
-use Rattle.ir_form.proofs.Places.{HasTokens-Rise}
-use Rattle.ir_cursor.specs.Cursor.{LieIn}
+use Rattle.ir_tokens.specs.declared.token.Token.{Token}
+use Rattle.ir_tokens.specs.Bytes.{Text}
+use Rattle.ir_tokens.specs.Tokens.{HasTokens, Rise}
+use Rattle.ir_tokens.proofs.Places.{HasTokens-Rise}
+use Rattle.ir_reader_tokens.specs.Cursor.{LieIn}
 
 rise_end : (at : ℕ) (ts : List Token) (end : ℕ) → Rise at ts end → at + length ts ≤ end
 rise_end at [] end r = omega arith
@@ -17,7 +17,8 @@ rise_lie at (t ∷ ts) text (from, some, more) = let e = rise_end t.to ts (lengt
 pub tokens_lie : (text : Text) (ts : List Token) → HasTokens text ts → LieIn text ts
 tokens_lie text ts h = rise_lie 0 ts text (HasTokens-Rise text ts h)
 
-rise_last : (at : ℕ) (t : Token) (ts : List Token) (end : ℕ) (d : Token) → Rise at (t ∷ ts) end → at + length (t ∷ ts) ≤ (slice_index_or (t ∷ ts) (length ts) d).to
+rise_last : (at : ℕ) (t : Token) (ts : List Token) (end : ℕ) (d : Token) → Rise at (t ∷ ts) end
+    → at + length (t ∷ ts) ≤ (slice_index_or (t ∷ ts) (length ts) d).to
 rise_last at t [] end d (from, some, more) = omega arith
 rise_last at t (u ∷ ts) end d (from, some, more) = let e = rise_last t.to u ts end d more in omega arith
 

@@ -1,8 +1,8 @@
 -- What the loop over the items of a module keeps, and what it comes to.
 use Rattle.std.proofs.Common.{◌≡◌, ℕ, ◌+◌, ◌<◌, ◌≤◌, Bool, true, false, List, [], ◌∷◌, ◌++◌, length, Option, Some, None, Err, refl, sym, ap, ◌∙◌, subst, arith}
 use Rattle.std.proofs.lemmas.List.{length-map}
-use Rattle.ir_form.specs.declared.token.Token.{Token}
-use Rattle.ir_form.specs.Bytes.{Text}
+use Rattle.ir_tokens.specs.declared.token.Token.{Token}
+use Rattle.ir_tokens.specs.Bytes.{Text}
 use Rattle.ir_tree.specs.declared.item.Item.{Item}
 use Rattle.ir_grammar.specs.Lexeme.{Lexemes, lexeme, lexemes}
 use Rattle.ir_grammar.specs.Items.{SomeItem, item}
@@ -27,7 +27,8 @@ pub lexemes-length : (text : Text) (ts : List Token) → length (lexemes text ts
 lexemes-length text ts = length-map ts (lexeme text)
 
 -- what is left is no longer
-pub HasRead-shorter : (ts : Lexemes) (inside : Bool) (rest : Lexemes) (items : List Item) (starts : List ℕ) → HasRead ts inside rest items starts → length rest ≤ length ts
+pub HasRead-shorter : (ts : Lexemes) (inside : Bool) (rest : Lexemes) (items : List Item) (starts : List ℕ) → HasRead ts inside rest items starts
+    → length rest ≤ length ts
 HasRead-shorter ts inside rest items starts r = Front-shorter (length ts) false ts r.pieces inside rest r.front
 
 pub item-shorter : (ts : Lexemes) (x : SomeItem) (mid : Lexemes) → item.parse ts ≡ Some (x, mid) → length mid < length ts
@@ -43,13 +44,16 @@ kept_starts-behind [] p = refl
 kept_starts-behind ((None, at) ∷ ps) p = kept_starts-behind ps p
 kept_starts-behind ((Some x, at) ∷ ps) p = ap (λ xs. at ∷ xs) (kept_starts-behind ps p)
 
-pub one_more : (ts : Lexemes) (inside : Bool) (rest : Lexemes) (items : List Item) (starts : List ℕ) → HasRead ts inside rest items starts → (x : SomeItem) (mid : Lexemes) (at : ℕ)
+pub one_more : (ts : Lexemes) (inside : Bool) (rest : Lexemes) (items : List Item) (starts : List ℕ) → HasRead ts inside rest items starts
+    → (x : SomeItem) (mid : Lexemes) (at : ℕ)
     → item.parse rest ≡ Some (x, mid) → is_allowed inside x ≡ true → at + length rest ≡ length ts
-    → (behind : Bool) (items' : List Item) (starts' : List ℕ) → behind ≡ leaves_open x → items' ≡ items ++ kept ((x, at) ∷ []) → starts' ≡ starts ++ kept_starts ((x, at) ∷ [])
+    → (behind : Bool) (items' : List Item) (starts' : List ℕ) → behind ≡ leaves_open x → items' ≡ items ++ kept ((x, at) ∷ [])
+    → starts' ≡ starts ++ kept_starts ((x, at) ∷ [])
     → HasRead ts behind mid items' starts'
 one_more ts inside rest items starts r x mid at h a p behind items' starts' e f g = record {
   pieces = r.pieces ++ ((x, at) ∷ []);
-  front = subst (λ i. Front (length ts) false ts (r.pieces ++ ((x, at) ∷ [])) i mid) (sym e) (Front-more (length ts) false ts r.pieces inside rest mid x at r.front (item-firm.exact.sound rest x mid h) a p);
+  front = subst (λ i. Front (length ts) false ts (r.pieces ++ ((x, at) ∷ [])) i mid) (sym e)
+      (Front-more (length ts) false ts r.pieces inside rest mid x at r.front (item-firm.exact.sound rest x mid h) a p);
   tree = kept-behind r.pieces (x, at) ∙ ap (λ xs. xs ++ kept ((x, at) ∷ [])) r.tree ∙ sym f;
   places = kept_starts-behind r.pieces (x, at) ∙ ap (λ xs. xs ++ kept_starts ((x, at) ∷ [])) r.places ∙ sym g;
 }
@@ -57,7 +61,8 @@ one_more ts inside rest items starts r x mid at h a p behind items' starts' e f 
 pub no_item : (inside : Bool) (ts : Lexemes) → item.parse ts ≡ None → NoItem inside ts
 no_item inside ts e x mid h a = let f : ◌≡◌ {A = Option (SomeItem × Lexemes)} None (Some (x, mid)) = sym e ∙ item-firm.exact.only ts x mid h in cc
 
-pub not_allowed : (inside : Bool) (ts : Lexemes) (x : SomeItem) (rest : Lexemes) → item.parse ts ≡ Some (x, rest) → is_allowed inside x ≡ false → NoItem inside ts
+pub not_allowed : (inside : Bool) (ts : Lexemes) (x : SomeItem) (rest : Lexemes) → item.parse ts ≡ Some (x, rest) → is_allowed inside x ≡ false
+    → NoItem inside ts
 not_allowed inside ts x rest e no_leave y mid h a =
     let one = item-one ts x y rest mid (item-firm.exact.sound ts x rest e) h in
     let c : is_allowed inside x ≡ true = ap (is_allowed inside) one.0 ∙ a in cc
@@ -67,7 +72,8 @@ empty [] e = refl
 empty (l ∷ ts) e = absurd (omega arith)
 
 -- where items and a place are left, none of them allowed
-pub unread_at : (ts : Lexemes) (inside : Bool) (rest : Lexemes) (items : List Item) (starts : List ℕ) → HasRead ts inside rest items starts → NoItem inside rest → 0 < length rest → (at : ℕ) → at + length rest ≡ length ts
+pub unread_at : (ts : Lexemes) (inside : Bool) (rest : Lexemes) (items : List Item) (starts : List ℕ) → HasRead ts inside rest items starts
+    → NoItem inside rest → 0 < length rest → (at : ℕ) → at + length rest ≡ length ts
     → IsUnread ts at
 unread_at ts inside rest items starts r none some at p = record {
   pieces = r.pieces;
@@ -79,7 +85,8 @@ unread_at ts inside rest items starts r none some at p = record {
 }
 
 -- where a function is open at the end
-pub open_at_end : (ts : Lexemes) (rest : Lexemes) (items : List Item) (starts : List ℕ) (inside : Bool) → inside ≡ true → HasRead ts inside rest items starts → length rest ≡ 0 → IsUnread ts (length ts)
+pub open_at_end : (ts : Lexemes) (rest : Lexemes) (items : List Item) (starts : List ℕ) (inside : Bool) → inside ≡ true → HasRead ts inside rest items starts
+    → length rest ≡ 0 → IsUnread ts (length ts)
 open_at_end ts rest items starts inside i r e = record {
   pieces = r.pieces;
   inside = inside;
@@ -89,7 +96,8 @@ open_at_end ts rest items starts inside i r e = record {
   place = omega arith;
 }
 
-pub whole_module : (ts : Lexemes) (rest : Lexemes) (items : List Item) (starts : List ℕ) (inside : Bool) → inside ≡ false → HasRead ts inside rest items starts → length rest ≡ 0 → IsModule ts items starts
+pub whole_module : (ts : Lexemes) (rest : Lexemes) (items : List Item) (starts : List ℕ) (inside : Bool) → inside ≡ false → HasRead ts inside rest items starts
+    → length rest ≡ 0 → IsModule ts items starts
 whole_module ts rest items starts inside i r e = record {
   pieces = r.pieces;
   whole = subst (λ j. Front (length ts) false ts r.pieces j []) i (subst (λ c. Front (length ts) false ts r.pieces inside c) (empty rest e) r.front);
@@ -98,7 +106,8 @@ whole_module ts rest items starts inside i r e = record {
 }
 
 -- where no item is read, by the reason that was given
-pub unread_by : (ts : Lexemes) (inside : Bool) (rest : Lexemes) (items : List Item) (starts : List ℕ) → HasRead ts inside rest items starts → 0 < length rest → (at : ℕ) → at + length rest ≡ length ts
+pub unread_by : (ts : Lexemes) (inside : Bool) (rest : Lexemes) (items : List Item) (starts : List ℕ) → HasRead ts inside rest items starts → 0 < length rest
+    → (at : ℕ) → at + length rest ≡ length ts
     → (e : ReadError) (left : Lexemes) → IsReadAt inside at rest (Err e) left → NamesUnread ts e
 unread_by ts inside rest items starts r some at p (error.NotAnItem n) left (same, none) = unread_at ts inside rest items starts r none some n (omega arith)
 unread_by ts inside rest items starts r some at p error.OutOfMemory left h = tt

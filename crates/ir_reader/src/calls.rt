@@ -1,4 +1,5 @@
-ghost use Rattle.ir_cursor.specs.Reads.{Reads};
+//! Calls.
+ghost use Rattle.ir_reader_tokens.specs.Reads.{Reads};
 ghost use Rattle.ir_grammar.specs.Ops as spec;
 ghost use Rattle.ir_grammar.specs.Rule as rule;
 ghost use Rattle.ir_grammar.specs.Starts.{sees_type};
@@ -6,8 +7,8 @@ ghost use Rattle.ir_grammar.specs.declared.starts.OpStart.TheVariants as start;
 ghost use Rattle.std.specs.Prelude.{◌≡◌};
 
 use am_lists::Items;
-use ir_cursor::{Cursor, PartError};
-use ir_parts::{Ignored, operand, repeated, result_type, type_text};
+use ir_reader_parts::{Ignored, operand, repeated, result_type, type_text};
+use ir_reader_tokens::{Cursor, PartError};
 use ir_tree::{Op, Opd, TyText};
 use std::alloc::Global;
 
@@ -33,13 +34,15 @@ fn arguments(alloc: Global, cursor: &mut Cursor<'_>) -> Result<Items<(TyText, Op
     further_arguments(alloc, cursor, found)
 }
 
-/// The further arguments, behind those that were found before.
+/// The further arguments, after those found so far.
 fn further_arguments(
     alloc: Global,
     cursor: &mut Cursor<'_>,
     mut found: Items<(TyText, Opd)>,
 ) -> Result<Items<(TyText, Opd)>, PartError>
-    ensures { Reads (rule.onto found ((rule.further sees_type spec.argument).parse cursor.old)) result cursor.new }
+    ensures { Reads
+        (rule.onto found
+        ((rule.further sees_type spec.argument).parse cursor.old)) result cursor.new }
 {
     'turns: while cursor.sees_more_types() {
         cursor.sign(b',')?;
@@ -48,7 +51,7 @@ fn further_arguments(
     Ok(found)
 }
 
-/// What stands behind the word `call`.
+/// The rest of a call, after the word `call`.
 fn call(alloc: Global, cursor: &mut Cursor<'_>) -> Result<Op, PartError>
     ensures { Reads (spec.call.parse cursor.old) result cursor.new }
 {

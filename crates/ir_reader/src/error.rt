@@ -1,15 +1,16 @@
+//! The refusals of `read` and `read_instruction`.
 use std::alloc::AllocError;
 use thiserror::Error;
 
 /// Why `read` gives no items.
 #[derive(Clone, Copy, Debug, PartialEq, Eq, Error)]
 pub enum ReadError {
-    /// The tokens before this one are whole items, each allowed where it stands, and those from
-    /// there begin no item that is allowed there.
+    /// The tokens before this one are whole items, each allowed at its place, and no allowed item
+    /// begins at this one.
     #[error("token {token} begins no item that is allowed there")]
     NotAnItem {
-        /// The number of the token, from 0; the number of all tokens where they are whole items
-        /// and a function is still open behind them.
+        /// The index of the token, from 0; the number of all tokens if they are whole items and a
+        /// function is still open after them.
         token: u32,
     },
     #[error("out of memory")]

@@ -1,4 +1,5 @@
-ghost use Rattle.ir_cursor.specs.Reads.{Reads};
+//! Declarations and heads of functions.
+ghost use Rattle.ir_reader_tokens.specs.Reads.{Reads};
 ghost use Rattle.ir_grammar.specs.Items as spec;
 ghost use Rattle.ir_grammar.specs.Rule as rule;
 ghost use Rattle.ir_grammar.specs.Starts.{sees_type};
@@ -6,8 +7,8 @@ ghost use Rattle.std.specs.Prelude.{IfOk, map, ◌≡◌};
 
 use am_base::OutOfMemory;
 use am_lists::Items;
-use ir_cursor::{Cursor, PartError};
-use ir_parts::{Ignored, repeated, result_type, type_text};
+use ir_reader_parts::{Ignored, repeated, result_type, type_text};
+use ir_reader_tokens::{Cursor, PartError};
 use ir_tree::{Item, Name, TyText};
 use std::alloc::Global;
 
@@ -46,13 +47,15 @@ fn listed(
     further_parameters(alloc, cursor, found)
 }
 
-/// The further parameters, behind those that were found before.
+/// The further parameters, after those found so far.
 fn further_parameters(
     alloc: Global,
     cursor: &mut Cursor<'_>,
     mut found: Items<(TyText, Option<Name>)>,
 ) -> Result<Items<(TyText, Option<Name>)>, PartError>
-    ensures { Reads (rule.onto found ((rule.further sees_type spec.parameter).parse cursor.old)) result cursor.new }
+    ensures { Reads
+        (rule.onto found
+        ((rule.further sees_type spec.parameter).parse cursor.old)) result cursor.new }
 {
     'turns: while cursor.sees_more_types() {
         cursor.sign(b',')?;

@@ -1,14 +1,16 @@
-ghost use Rattle.ir_cursor.specs.Reads.{Reads, Takes};
+//! Items.
+ghost use Rattle.ir_reader_tokens.specs.Reads.{Reads, Takes};
 ghost use Rattle.ir_grammar.specs.Items as spec;
 ghost use Rattle.ir_grammar.specs.declared.starts.ItemStart.TheVariants as start;
 ghost use Rattle.std.specs.Prelude.{◌≡◌};
 
 use crate::functions::{declare, head};
 use crate::ops::instruction;
-use ir_cursor::{Cursor, PartError};
 use ir_grammar::ItemStart;
-use ir_parts::{Ignored, curly, group, initialiser, optional, repeated, type_text};
+use ir_reader_parts::{Ignored, curly, group, initialiser, optional, repeated, type_text};
+use ir_reader_tokens::{Cursor, PartError};
 use ir_tree::{Item, Name};
+use sqlite_items::Boxed;
 use std::alloc::Global;
 
 /// `source_filename = Quoted`.
@@ -65,7 +67,7 @@ fn metadata(alloc: Global, cursor: &mut Cursor<'_>) -> Result<Option<Item>, Part
     Ok(None)
 }
 
-/// `type T`, behind the type's name and its `=`.
+/// `type T`, after the type's name and its `=`.
 fn type_definition(
     alloc: Global,
     cursor: &mut Cursor<'_>,
@@ -78,7 +80,7 @@ fn type_definition(
     Ok(Some(Item::TypeDef(name, ty)))
 }
 
-/// `op tail*`, behind its result and its `=` where one is written.
+/// `op tail*`, after its result and its `=` if they are written.
 fn instruction_of(
     alloc: Global,
     cursor: &mut Cursor<'_>,
@@ -88,7 +90,7 @@ fn instruction_of(
 {
     let op = instruction(alloc, cursor)?;
     repeated(alloc, cursor, Ignored::Tails)?;
-    Ok(Some(Item::Instr(result_name, op)))
+    Ok(Some(Item::Instr(result_name, Boxed::new(alloc, op)?)))
 }
 
 /// `Local = type T` or `Local = op tail*`.
@@ -133,8 +135,8 @@ fn end(cursor: &mut Cursor<'_>) -> Result<Option<Item>, PartError>
     Ok(Some(Item::End))
 }
 
-/// An item. One that isn't in the tree is read, and gives nothing.
-#[tactic(auto, using(ir_cursor::proofs::Taken::taken_read), unfolding(ir_grammar::specs::Items::item))]
+/// An item; `None` if it is one that the tree leaves out.
+#[tactic(auto, using(ir_reader_tokens::proofs::Taken::taken_read), unfolding(ir_grammar::specs::Items::item))]
 pub fn item(alloc: Global, cursor: &mut Cursor<'_>) -> Result<Option<Item>, PartError>
     ensures { Reads (spec.item.parse cursor.old) result cursor.new }
 {

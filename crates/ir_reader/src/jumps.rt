@@ -1,4 +1,5 @@
-ghost use Rattle.ir_cursor.specs.Reads.{Reads};
+//! `phi`, `br` and `switch`.
+ghost use Rattle.ir_reader_tokens.specs.Reads.{Reads};
 ghost use Rattle.ir_grammar.specs.Lexeme.{sees_sign};
 ghost use Rattle.ir_grammar.specs.Ops as spec;
 ghost use Rattle.ir_grammar.specs.Rule as rule;
@@ -7,8 +8,8 @@ ghost use Rattle.ir_grammar.specs.declared.starts.OpStart.TheVariants as start;
 ghost use Rattle.std.specs.Prelude.{◌≡◌};
 
 use am_lists::Items;
-use ir_cursor::{Cursor, PartError};
-use ir_parts::{operand, type_text, typed_operand};
+use ir_reader_parts::{operand, type_text, typed_operand};
+use ir_reader_tokens::{Cursor, PartError};
 use ir_tree::{Name, Op, Opd, TyText};
 use std::alloc::Global;
 
@@ -26,7 +27,7 @@ fn entry(alloc: Global, cursor: &mut Cursor<'_>) -> Result<(Opd, Name), PartErro
     Ok((value, from))
 }
 
-/// Whether a comma comes next, and a `[` behind it.
+/// Whether a comma comes next, and a `[` after it.
 fn sees_more_entries(cursor: &Cursor<'_>) -> bool
     ensures { result ≡ rule.comma_then (sees_sign 91) cursor.now }
 {
@@ -35,20 +36,23 @@ fn sees_more_entries(cursor: &Cursor<'_>) -> bool
 
 /// The entries of a `phi`, one at least.
 fn entries(alloc: Global, cursor: &mut Cursor<'_>) -> Result<Items<(Opd, Name)>, PartError>
-    ensures { Reads ((rule.some_listed (sees_sign 91) spec.entry).parse cursor.old) result cursor.new }
+    ensures { Reads
+        ((rule.some_listed (sees_sign 91) spec.entry).parse cursor.old) result cursor.new }
 {
     let mut found = Items::new(alloc);
     found.push(entry(alloc, cursor)?)?;
     further_entries(alloc, cursor, found)
 }
 
-/// The further entries, behind those that were found before.
+/// The further entries, after those found so far.
 fn further_entries(
     alloc: Global,
     cursor: &mut Cursor<'_>,
     mut found: Items<(Opd, Name)>,
 ) -> Result<Items<(Opd, Name)>, PartError>
-    ensures { Reads (rule.onto found ((rule.further (sees_sign 91) spec.entry).parse cursor.old)) result cursor.new }
+    ensures { Reads
+        (rule.onto found
+        ((rule.further (sees_sign 91) spec.entry).parse cursor.old)) result cursor.new }
 {
     'turns: while sees_more_entries(cursor) {
         cursor.sign(b',')?;
@@ -77,7 +81,7 @@ fn target(alloc: Global, cursor: &mut Cursor<'_>) -> Result<Name, PartError>
     cursor.local(alloc)
 }
 
-/// What stands behind the `br` of two labels.
+/// The rest of a `br` with a condition, after the word `br`.
 fn conditional(alloc: Global, cursor: &mut Cursor<'_>) -> Result<Op, PartError>
     ensures { Reads (spec.conditional.parse cursor.old) result cursor.new }
 {

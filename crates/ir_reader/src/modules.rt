@@ -1,28 +1,32 @@
-ghost use Rattle.ir_cursor.specs.Cursor.{LieIn};
-ghost use Rattle.ir_form.specs.Tokens.{HasTokens, Rise};
+//! Whole modules, and single instructions.
+ghost use Rattle.ir_reader_tokens.specs.Cursor.{LieIn};
+ghost use Rattle.ir_tokens.specs.Tokens.{HasTokens, Rise};
 ghost use Rattle.ir_grammar.specs.Lexeme.{lexemes};
 ghost use Rattle.ir_grammar.specs.Modules as spec;
-ghost use Rattle.ir_reader.specs.Answers.{IsBare, IsNoInstruction, IsReadAt, IsWholeInstruction, NamesUnread, SaysWhole};
-ghost use Rattle.std.specs.Prelude.{[], ◌++◌, ◌<◌, ◌≡◌, ◌≤◌, ◌^◌, ◌∷◌, IfErr, IfOk, OnOk, Some, length, ℕ};
+ghost use Rattle.ir_reader.specs.Answers.{IsBare, IsNoInstruction, IsReadAt, IsWholeInstruction};
+ghost use Rattle.ir_reader.specs.Answers.{NamesUnread, SaysWhole};
+ghost use Rattle.std.specs.Prelude.{[], ◌++◌, ◌<◌, ◌≡◌, ◌≤◌, ◌^◌, ◌∷◌, IfErr, IfOk, OnOk, Some};
+ghost use Rattle.std.specs.Prelude.{length, ℕ};
 
 use crate::error::{InstrError, ReadError};
 use crate::items::item;
+use am_base::MAX_FILE_BYTES;
 use am_lists::Items;
-use ir_cursor::{Cursor, PartError};
-use ir_form::Token;
 use ir_lexer::{LexError, lex};
+use ir_reader_tokens::{Cursor, PartError};
+use ir_tokens::Token;
 use ir_tree::{Item, Module};
 use std::alloc::{AllocError, Global};
 
-/// The items of a text that is a module.
+/// The items of a module, and where each begins.
 #[derive(Drop)]
 pub struct Reading {
     pub module: Module,
-    /// The number of each item's first token, from 0, in the order of the items.
+    /// The index of each item's first token, from 0, in the order of the items.
     pub starts: Items<u32>,
 }
 
-// Where an item may stand.
+// Where an item is allowed.
 
 fn is_inner(found: &Option<Item>) -> bool
     ensures { result ≡ spec.is_inner found.now }
@@ -51,7 +55,7 @@ fn leaves_open(found: &Option<Item>) -> bool
 
 // Whole modules.
 
-/// The next item, whose first token has this number, where it is allowed.
+/// The next item, whose first token has the index `at`, if it is allowed.
 fn next_item(
     alloc: Global,
     cursor: &mut Cursor<'_>,
@@ -73,7 +77,7 @@ fn next_item(
     }
 }
 
-/// Keeps the item and its place, where it is in the tree.
+/// Keeps the item and the index of its first token, if the tree has it.
 fn keep(
     items: &mut Items<Item>,
     starts: &mut Items<u32>,
@@ -90,15 +94,14 @@ fn keep(
     Ok(())
 }
 
-/// The place where a token ends.
+/// The offset of the end of a token.
 fn end_of(token: &Token) -> u32
     ensures { result ≡ token.now.to }
 {
     token.to
 }
 
-/// How many tokens there are. Each has a byte at least, so there are no more than the place where
-/// the last one ends.
+/// The number of tokens. Each has a byte at least, so it is at most the end of the last one.
 fn count(tokens: &[Token]) -> u32
     requires { (end : ℕ) × Rise 0 tokens.now end }
     ensures { result ≡ length tokens.now }
@@ -112,16 +115,18 @@ fn count(tokens: &[Token]) -> u32
     }
 }
 
-/// The items of a module, with the first token of each.
+/// Reads the items of a module, with the index of each item's first token.
 ///
-/// `tokens` are those of `text`, as `lex` gives them. A text that isn't a module is refused with
-/// `NotAnItem`, which names the first token from which no allowed item begins, or the number of
-/// tokens where a function is still open behind them. It takes a time that grows with the tokens.
+/// `tokens` are those of `text`, as `lex` returns them. `NotAnItem` is returned iff the text isn't
+/// a module: it has the index of the first token at which no allowed item begins, or the number of
+/// tokens if a function is still open after them. `OutOfMemory` may come at any text. O(n) in the
+/// tokens.
 ///
 /// LLVM Language Reference, "Module Structure". Which items there are is this project's own.
 pub fn read(alloc: Global, text: &[u8], tokens: &[Token]) -> Result<Reading, ReadError>
     requires { HasTokens text.now tokens.now }
-    ensures items { IfOk result (λ r. spec.IsModule (lexemes text.now tokens.now) r.module.items r.starts) }
+    ensures items { IfOk result
+        (λ r. spec.IsModule (lexemes text.now tokens.now) r.module.items r.starts) }
     ensures unread { IfErr result (λ e. NamesUnread (lexemes text.now tokens.now) e) }
 {
     let all = count(tokens);
@@ -172,13 +177,14 @@ fn whole_instruction(alloc: Global, text: &[u8], tokens: &[Token]) -> Result<Ite
     }
 }
 
-/// The one instruction, without a written result, that is the whole text.
+/// Reads the one instruction, without a written result, that is the whole text, of at most
+/// `MAX_FILE_BYTES` bytes.
 ///
-/// A text of at most 4,194,304 bytes. `NotAnInstruction` comes exactly where the text isn't that:
-/// where it has no tokens, where these are no item or more than one, and where the item is
-/// another one or has a result. LLVM Language Reference, "Instruction Reference".
+/// `NotAnInstruction` is returned iff the text isn't that: it has no tokens, or these are no item
+/// or more than one, or the item is another one or has a result. `OutOfMemory` may come at any
+/// text. LLVM Language Reference, "Instruction Reference".
 pub fn read_instruction(alloc: Global, text: &[u8]) -> Result<Item, InstrError>
-    requires { length text.now ≤ 4194304 }
+    requires { length text.now ≤ MAX_FILE_BYTES }
     ensures item { IfOk result (λ x. IsWholeInstruction text.now x) }
     ensures none { IfErr result (λ e. IsNoInstruction text.now e) }
 {

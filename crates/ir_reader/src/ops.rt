@@ -1,4 +1,5 @@
-ghost use Rattle.ir_cursor.specs.Reads.{Reads, Takes};
+//! Instructions other than calls and jumps, and the choice among all.
+ghost use Rattle.ir_reader_tokens.specs.Reads.{Reads, Takes};
 ghost use Rattle.ir_grammar.specs.Ops as spec;
 ghost use Rattle.ir_grammar.specs.declared.starts.OpStart.TheVariants as start;
 ghost use Rattle.std.specs.Prelude.{◌≡◌};
@@ -6,9 +7,11 @@ ghost use Rattle.std.specs.Prelude.{◌≡◌};
 use crate::calls::{plain_call, tail_call};
 use crate::jumps::{branch, phi, switch};
 use am_base::{BinOp, Cast};
-use ir_cursor::{Cursor, PartError};
 use ir_grammar::OpStart;
-use ir_parts::{Ignored, further_operands, operand, optional, repeated, type_text, typed_operand};
+use ir_reader_parts::{
+    Ignored, further_operands, operand, optional, repeated, type_text, typed_operand,
+};
+use ir_reader_tokens::{Cursor, PartError};
 use ir_tree::{Op, Opd, TyText};
 use std::alloc::Global;
 
@@ -152,7 +155,7 @@ fn unreachable(cursor: &mut Cursor<'_>) -> Result<Op, PartError>
 }
 
 /// An instruction without its result.
-#[tactic(auto, using(ir_cursor::proofs::Taken::taken_read), unfolding(ir_grammar::specs::Ops::instruction))]
+#[tactic(auto, using(ir_reader_tokens::proofs::Taken::taken_read), unfolding(ir_grammar::specs::Ops::instruction))]
 pub fn instruction(alloc: Global, cursor: &mut Cursor<'_>) -> Result<Op, PartError>
     ensures { Reads (spec.instruction.parse cursor.old) result cursor.new }
 {

@@ -1,6 +1,10 @@
+//! What the tests assert of a text.
+use am_base::MAX_FILE_BYTES;
+use am_lists::Same;
 use ir_lexer::lex;
 use ir_reader::{InstrError, ReadError, read, read_instruction};
 use ir_text::{Item, print, print_instruction};
+use sqlite_items::Boxed;
 use std::alloc::Global;
 use std::process::Abort;
 use std::test::Fail;
@@ -15,7 +19,7 @@ pub fn expect_items(
     starts: &[u32],
 ) -> Result<(), Fail> {
     let text = text.as_bytes();
-    assert!(rt; text.len() <= 4_194_304);
+    assert!(rt; text.len() <= MAX_FILE_BYTES);
     let tokens = lex(alloc, text)?;
     let reading = read(alloc, text, tokens.as_slice())?;
     assert_eq!(rt; reading.starts.as_slice(), starts);
@@ -25,7 +29,7 @@ pub fn expect_items(
 /// Asserts that this token of the text begins no allowed item.
 pub fn expect_unread(rt: &impl Abort, alloc: Global, text: &str, token: u32) -> Result<(), Fail> {
     let text = text.as_bytes();
-    assert!(rt; text.len() <= 4_194_304);
+    assert!(rt; text.len() <= MAX_FILE_BYTES);
     let tokens = lex(alloc, text)?;
     let refused = read(alloc, text, tokens.as_slice()).err();
     assert_eq!(rt; refused, Some(ReadError::NotAnItem { token }));
@@ -33,14 +37,14 @@ pub fn expect_unread(rt: &impl Abort, alloc: Global, text: &str, token: u32) -> 
 }
 
 /// The canonical text of a module.
-pub fn canonical(rt: &impl Abort, alloc: Global, text: &[u8]) -> Result<Vec<u8>, Fail> {
-    assert!(rt; text.len() <= 4_194_304);
+fn canonical(rt: &impl Abort, alloc: Global, text: &[u8]) -> Result<Vec<u8>, Fail> {
+    assert!(rt; text.len() <= MAX_FILE_BYTES);
     let tokens = lex(alloc, text)?;
     let reading = read(alloc, text, tokens.as_slice())?;
     Ok(print(alloc, &reading.module)?)
 }
 
-/// Asserts that a module prints as this text, and this text as itself.
+/// Asserts that a module has this canonical text, and that this is its own.
 pub fn expect_canonical(
     rt: &impl Abort,
     alloc: Global,
@@ -60,9 +64,10 @@ pub fn expect_canonical(
 fn is_copied(alloc: Global, item: &Item, want: &str) -> Result<bool, Fail> {
     match item {
         Item::Instr(_, op) => {
-            let copy = op.copy(alloc)?;
-            let same = copy.is(op);
-            let printed = print_instruction(alloc, &Item::Instr(None, copy))?;
+            let copy = op.get().copy(alloc)?;
+            let same = copy.same(op.get());
+            let copy = Item::Instr(None, Boxed::new(alloc, copy)?);
+            let printed = print_instruction(alloc, &copy)?;
             Ok(same && printed.as_slice() == want.as_bytes())
         }
         _ => Ok(false),
@@ -73,7 +78,7 @@ fn is_copied(alloc: Global, item: &Item, want: &str) -> Result<bool, Fail> {
 /// copy, which is equal to it.
 pub fn expect_op(rt: &impl Abort, alloc: Global, text: &str, want: &str) -> Result<(), Fail> {
     let bytes = text.as_bytes();
-    assert!(rt; bytes.len() <= 4_194_304);
+    assert!(rt; bytes.len() <= MAX_FILE_BYTES);
     let item = read_instruction(alloc, bytes)?;
     let printed = print_instruction(alloc, &item)?;
     assert_eq!(rt; printed.as_slice(), want.as_bytes(), "of {text:?}");
@@ -84,7 +89,7 @@ pub fn expect_op(rt: &impl Abort, alloc: Global, text: &str, want: &str) -> Resu
 /// Asserts that the text isn't one instruction without a result.
 pub fn expect_none(rt: &impl Abort, alloc: Global, text: &str) {
     let bytes = text.as_bytes();
-    assert!(rt; bytes.len() <= 4_194_304);
+    assert!(rt; bytes.len() <= MAX_FILE_BYTES);
     let refused = read_instruction(alloc, bytes).err();
     assert_eq!(rt; refused, Some(InstrError::NotAnInstruction), "of {text:?}");
 }
@@ -92,7 +97,7 @@ pub fn expect_none(rt: &impl Abort, alloc: Global, text: &str) {
 /// Asserts that the text is one instruction without a result.
 pub fn expect_some(rt: &impl Abort, alloc: Global, text: &str) {
     let bytes = text.as_bytes();
-    assert!(rt; bytes.len() <= 4_194_304);
+    assert!(rt; bytes.len() <= MAX_FILE_BYTES);
     assert!(rt; read_instruction(alloc, bytes).is_ok(), "of {text:?}");
 }
 

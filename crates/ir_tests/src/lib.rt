@@ -1,5 +1,5 @@
-//! Texts that are cut into tokens, read, copied and printed. It has no code of its own, so that the
-//! crates below it are proved without them.
+//! The tests of the crates of the text. They have a crate of their own, so that those are proved
+//! without them.
 #![tactic(auto)]
 
 #[cfg(test)]

@@ -1,4 +1,6 @@
+//! Whole modules: their items, what is skipped, and their canonical text.
 use crate::expect::{expect_canonical, expect_items, expect_unread};
+use am_base::MAX_FILE_BYTES;
 use ir_lexer::lex;
 use ir_reader::read;
 use ir_text::{Item, print_instruction};
@@ -7,93 +9,58 @@ use std::process::Abort;
 use std::test::Fail;
 
 #[test]
-fn items_without_a_trace(rt: HostRuntime) -> Result<(), Fail> {
-    let alloc = rt.alloc();
-    expect_items(&rt, alloc, "", &[])?;
-    expect_items(
-        &rt,
-        alloc,
-        "source_filename = \"a\" target triple = \"b\"",
-        &[],
-    )?;
-    expect_items(
-        &rt,
-        alloc,
-        "attributes #0 = { \"a\"=\"b\" nounwind } !0 = distinct !{!0, !\"x\"}",
-        &[],
-    )?;
+fn items_and_their_first_tokens(rt: HostRuntime) -> Result<(), Fail> {
+    let cases: [(&str, &[u32]); 10] = [
+        ("", &[]),
+        ("source_filename = \"a\" target triple = \"b\"", &[]),
+        (
+            "attributes #0 = { \"a\"=\"b\" nounwind } !0 = distinct !{!0, !\"x\"}",
+            &[],
+        ),
+        ("%t = type { [3 x i8], %u } %u = type { }", &[0, 12]),
+        (
+            "@a = private constant [2 x i8] c\"a\\00\", align 1 @b = global ptr @a #0",
+            &[0, 13],
+        ),
+        ("declare void @f(i32 noundef, ptr align 8 %0) #1", &[0]),
+        ("declare nsw label i32 @f()", &[0]),
+        ("define void @f() { a: ret void }", &[0, 6, 7, 9]),
+        (
+            "define i32 @f(i32 %0) #0 !dbg !4 { ret i32 %0 }",
+            &[0, 11, 14],
+        ),
+        ("define void @f() { } define void @g() { }", &[0, 6, 7, 13]),
+    ];
+    for (text, starts) in cases {
+        expect_items(&rt, rt.alloc(), text, starts)?;
+    }
     Ok(())
 }
 
 #[test]
-fn items_outside(rt: HostRuntime) -> Result<(), Fail> {
-    let alloc = rt.alloc();
-    expect_items(
-        &rt,
-        alloc,
-        "%t = type { [3 x i8], %u } %u = type { }",
-        &[0, 12],
-    )?;
-    expect_items(
-        &rt,
-        alloc,
-        "@a = private constant [2 x i8] c\"a\\00\", align 1 @b = global ptr @a #0",
-        &[0, 13],
-    )?;
-    expect_items(
-        &rt,
-        alloc,
-        "declare void @f(i32 noundef, ptr align 8 %0) #1",
-        &[0],
-    )?;
-    expect_items(&rt, alloc, "declare nsw label i32 @f()", &[0])?;
-    Ok(())
-}
-
-#[test]
-fn items_not_allowed_outside(rt: HostRuntime) -> Result<(), Fail> {
-    let alloc = rt.alloc();
-    expect_unread(&rt, alloc, "a:", 0)?;
-    expect_unread(&rt, alloc, "ret void", 0)?;
-    expect_unread(&rt, alloc, "}", 0)?;
-    expect_unread(&rt, alloc, "declare void @f() align", 0)?;
-    expect_unread(&rt, alloc, "declare void @f() declare byval void @g()", 5)?;
-    Ok(())
-}
-
-#[test]
-fn items_inside(rt: HostRuntime) -> Result<(), Fail> {
-    let alloc = rt.alloc();
-    expect_items(
-        &rt,
-        alloc,
-        "define void @f() { a: ret void }",
-        &[0, 6, 7, 9],
-    )?;
-    expect_items(
-        &rt,
-        alloc,
-        "define i32 @f(i32 %0) #0 !dbg !4 { ret i32 %0 }",
-        &[0, 11, 14],
-    )?;
-    expect_items(
-        &rt,
-        alloc,
-        "define void @f() { } define void @g() { }",
-        &[0, 6, 7, 13],
-    )?;
-    Ok(())
-}
-
-#[test]
-fn items_not_allowed_inside(rt: HostRuntime) -> Result<(), Fail> {
-    let alloc = rt.alloc();
-    expect_unread(&rt, alloc, "define void @f() { ret void", 8)?;
-    expect_unread(&rt, alloc, "define void @f() {", 6)?;
-    expect_unread(&rt, alloc, "define void @f() { define void @g() {", 6)?;
-    expect_unread(&rt, alloc, "define void @f() { ret i32 0, foo }", 9)?;
-    expect_unread(&rt, alloc, "define void @f() { ret i32 0, align }", 6)?;
-    expect_unread(&rt, alloc, "define void @f() { ret void } }", 9)?;
+fn tokens_that_are_not_read(rt: HostRuntime) -> Result<(), Fail> {
+    let cases = [
+        ("a:", 0),
+        ("ret void", 0),
+        ("}", 0),
+        ("declare void @f() align", 0),
+        ("declare void @f() declare byval void @g()", 5),
+        ("define void @f() { ret void", 8),
+        ("define void @f() {", 6),
+        ("define void @f() { define void @g() {", 6),
+        ("define void @f() { ret i32 0, foo }", 9),
+        ("define void @f() { ret i32 0, align }", 6),
+        ("define void @f() { ret void } }", 9),
+        ("declare !dbg !15 i32 @g()", 0),
+        ("@c = external global i32", 0),
+        ("@d = alias i32, ptr @a", 0),
+        ("module asm \"x\"", 0),
+        ("declare void @g(ptr align \"a\" %x)", 0),
+        ("declare void @g(ptr align {8} %x)", 0),
+    ];
+    for (text, token) in cases {
+        expect_unread(&rt, rt.alloc(), text, token)?;
+    }
     Ok(())
 }
 
@@ -201,65 +168,75 @@ declare i32 @g(i32)
 #[test]
 fn an_optimised_text_of_clang(rt: HostRuntime) -> Result<(), Fail> {
     let alloc = rt.alloc();
-    expect_canonical(&rt, alloc, OPTIMISED, CANONICAL_OPTIMISED)?;
-    expect_unread(&rt, alloc, "declare !dbg !15 i32 @g()", 0)
+    expect_canonical(&rt, alloc, OPTIMISED, CANONICAL_OPTIMISED)
 }
 
 #[test]
-fn globals_and_types(rt: HostRuntime) -> Result<(), Fail> {
-    let alloc = rt.alloc();
-    let text = "@a = private global [2 x i32] [i32 1,i32 -2]";
-    let want = "@a = global [ 2 x i32 ] [ i32 1, i32 -2 ]\n";
-    expect_canonical(&rt, alloc, text, want)?;
-    let text = "@b = constant {i8,[0 x i8]} { i8 1, [0 x i8] [] }, section \"x\", align 8 #0";
-    let want = "@b = constant { i8, [ 0 x i8 ] } { i8 1, [ 0 x i8 ] [ ] }\n";
-    expect_canonical(&rt, alloc, text, want)?;
-    let text = "@c = constant [3 x i8] c\"a\\0a\\22\" %\"t u\" = type { }";
-    let want = "@c = constant [ 3 x i8 ] c\"a\\0A\\22\"\n%\"t u\" = type { }\n";
-    expect_canonical(&rt, alloc, text, want)
-}
-
-#[test]
-fn words_that_are_skipped(rt: HostRuntime) -> Result<(), Fail> {
-    let alloc = rt.alloc();
-    let text = "declare void @g(ptr align(8) %x, i32) align 4 \"a\"=\"b\" \"c\" #3";
-    expect_canonical(&rt, alloc, text, "declare void @g(ptr, i32)\n")?;
-    expect_unread(&rt, alloc, "@c = external global i32", 0)?;
-    expect_unread(&rt, alloc, "@d = alias i32, ptr @a", 0)?;
-    expect_unread(&rt, alloc, "module asm \"x\"", 0)
-}
-
-#[test]
-fn groups_behind_align(rt: HostRuntime) -> Result<(), Fail> {
-    let alloc = rt.alloc();
-    let text = "declare void @g(ptr align(8) \"a\" \"b\"=\"c\" %x) align (4) \"a\"=\"b\"";
-    expect_canonical(&rt, alloc, text, "declare void @g(ptr)\n")?;
-    expect_unread(&rt, alloc, "declare void @g(ptr align \"a\" %x)", 0)?;
-    expect_unread(&rt, alloc, "declare void @g(ptr align {8} %x)", 0)
+fn globals_types_and_declarations(rt: HostRuntime) -> Result<(), Fail> {
+    let cases = [
+        (
+            "@a = private global [2 x i32] [i32 1,i32 -2]",
+            "@a = global [ 2 x i32 ] [ i32 1, i32 -2 ]\n",
+        ),
+        (
+            "@b = constant {i8,[0 x i8]} { i8 1, [0 x i8] [] }, section \"x\", align 8 #0",
+            "@b = constant { i8, [ 0 x i8 ] } { i8 1, [ 0 x i8 ] [ ] }\n",
+        ),
+        (
+            "@c = constant [3 x i8] c\"a\\0a\\22\" %\"t u\" = type { }",
+            "@c = constant [ 3 x i8 ] c\"a\\0A\\22\"\n%\"t u\" = type { }\n",
+        ),
+        (
+            "@g = global i32 -170141183460469231731687303715884105728",
+            "@g = global i32 -170141183460469231731687303715884105728\n",
+        ),
+        (
+            "@0=constant ptr{ptr[i8 1,ptr c\"a\n\\22\"]}",
+            "@0 = constant ptr { ptr [ i8 1, ptr c\"a\\0A\\22\" ] }\n",
+        ),
+        (
+            "declare void @g(ptr align(8) %x, i32) align 4 \"a\"=\"b\" \"c\" #3",
+            "declare void @g(ptr, i32)\n",
+        ),
+        (
+            "declare void @g(ptr align(8) \"a\" \"b\"=\"c\" %x) align (4) \"a\"=\"b\"",
+            "declare void @g(ptr)\n",
+        ),
+        (
+            "declare void @f(i32 %a,ptr)declare i8 @g()define void @\"4\"(ptr){}",
+            "declare void @f(i32, ptr)\ndeclare i8 @g()\ndefine void @\"4\"(ptr) {\n}\n",
+        ),
+    ];
+    for (text, want) in cases {
+        expect_canonical(&rt, rt.alloc(), text, want)?;
+    }
+    Ok(())
 }
 
 /// Names between quotes, each of them a type's and a label's.
 #[test]
 fn names_are_plain_where_they_read_back(rt: HostRuntime) -> Result<(), Fail> {
-    let alloc = rt.alloc();
-    let types =
-        "%\"a\" = type ptr %-5 = type ptr %\"4a\" = type ptr %\"7\" = type ptr %007 = type ptr";
-    let want = "%a = type ptr
+    let cases = [
+        (
+            "%\"a\" = type ptr %-5 = type ptr %\"4a\" = type ptr %\"7\" = type ptr %007 = type ptr",
+            "%a = type ptr
 %-5 = type ptr
 %\"4a\" = type ptr
 %\"7\" = type ptr
 %7 = type ptr
-";
-    expect_canonical(&rt, alloc, types, want)?;
-    let types = "%\"\" = type ptr %\"a b\" = type ptr %\"\n\\1f ~\\7f\\ab\\22\\\\\" = type ptr";
-    let want = "%\"\" = type ptr
+",
+        ),
+        (
+            "%\"\" = type ptr %\"a b\" = type ptr %\"\n\\1f ~\\7f\\ab\\22\\\\\" = type ptr",
+            "%\"\" = type ptr
 %\"a b\" = type ptr
 %\"\\0A\\1F ~\\7F\\AB\\22\\5C\" = type ptr
-";
-    expect_canonical(&rt, alloc, types, want)?;
-    let labels =
-        "define void @f() { \"a\": -5: \"4a\": \"7\": 007: 4294967295: \"\": \"a b\": \"\n\\1f ~\\7f\\ab\\22\\\\\": }";
-    let want = "define void @f() {
+",
+        ),
+        (
+            "define void @f() { \"a\": -5: \"4a\": \"7\": 007: 4294967295: \"\": \"\n\\1f \
+             ~\\ab\\\\\": }",
+            "define void @f() {
 a:
 -5:
 4a:
@@ -267,44 +244,18 @@ a:
 7:
 4294967295:
 \"\":
-\"a b\":
-\"\\0A\\1F ~\\7F\\AB\\22\\5C\":
+\"\\0A\\1F ~\\AB\\5C\":
 }
-";
-    expect_canonical(&rt, alloc, labels, want)
-}
-
-#[test]
-fn initialisers_have_one_text(rt: HostRuntime) -> Result<(), Fail> {
-    let alloc = rt.alloc();
-    let text = "@g = global i32 -170141183460469231731687303715884105728";
-    let want = "@g = global i32 -170141183460469231731687303715884105728\n";
-    expect_canonical(&rt, alloc, text, want)?;
-    let text = "@0=constant ptr{ptr[i8 1,ptr c\"a\n\\22\"]}";
-    let want = "@0 = constant ptr { ptr [ i8 1, ptr c\"a\\0A\\22\" ] }\n";
-    expect_canonical(&rt, alloc, text, want)
+",
+        ),
+    ];
+    for (text, want) in cases {
+        expect_canonical(&rt, rt.alloc(), text, want)?;
+    }
+    Ok(())
 }
 
-/// Functions of two numbers, of none and of an unnamed one.
-#[test]
-fn functions_have_one_text(rt: HostRuntime) -> Result<(), Fail> {
-    let alloc = rt.alloc();
-    let text =
-        "define dso_local i32 @max(i32 noundef %0,i32 %1){%3=alloca i32,align 4 br label %5 5: ret i32 %0}";
-    let want = "define i32 @max(i32 %0, i32 %1) {
-  %3 = alloca i32
-  br label %5
-5:
-  ret i32 %0
-}
-";
-    expect_canonical(&rt, alloc, text, want)?;
-    let text = "declare void @f(i32 %a,ptr)declare i8 @g()define void @\"4\"(ptr){}";
-    let want = "declare void @f(i32, ptr)\ndeclare i8 @g()\ndefine void @\"4\"(ptr) {\n}\n";
-    expect_canonical(&rt, alloc, text, want)
-}
-
-/// The item's text, where it is an instruction.
+/// The item's text, if it is an instruction.
 fn printed(alloc: Global, item: &Item) -> Result<Vec<u8>, Fail> {
     match item {
         Item::Instr(_, _) => Ok(print_instruction(alloc, item)?),
@@ -321,7 +272,7 @@ fn expect_instruction(
     want: &str,
 ) -> Result<(), Fail> {
     let text = text.as_bytes();
-    assert!(rt; text.len() <= 4_194_304);
+    assert!(rt; text.len() <= MAX_FILE_BYTES);
     let tokens = lex(alloc, text)?;
     let reading = read(alloc, text, tokens.as_slice())?;
     let Some(item) = reading.module.items.get(at) else {

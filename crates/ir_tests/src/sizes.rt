@@ -1,3 +1,4 @@
+//! Long texts and deep ones.
 use crate::expect::{expect_items, expect_none, expect_op, expect_unread, wrapped};
 use std::test::Fail;
 

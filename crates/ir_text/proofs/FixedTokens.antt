@@ -1,5 +1,6 @@
 -- The spellings of a canonical text are tokens, wherever a token of their kind may end.
-use Rattle.std.proofs.Common.{◌≡◌, ℕ, suc, ◌+◌, ◌^◌, ◌<◌, ◌≤◌, ◌⊎◌, inl, inr, Bool, true, false, not, ◌&&◌, ◌||◌, [], ◌∷◌, ◌++◌, length, decimal, ℤ, pos, negsuc, codes, Some, refl, ap, ◌∙◌, arith}
+use Rattle.std.proofs.Common.{◌≡◌, ℕ, suc, ◌+◌, ◌^◌, ◌<◌, ◌≤◌, ◌⊎◌, inl, inr, Bool, true, false, not, ◌&&◌, ◌||◌, [], ◌∷◌, ◌++◌, length, decimal, ℤ, pos}
+use Rattle.std.proofs.Common.{negsuc, codes, Some, refl, ap, ◌∙◌, arith}
 use Rattle.std.specs.Char.{is_ascii_digit}
 use Rattle.std.specs.List.{list_all}
 use Rattle.std.proofs.lemmas.Bool.{and_parts, and_from, or_parts, or_left, or_right, not-true, lt-ltb, ltb-true, cond_both, false_from_ne_true}
@@ -12,14 +13,15 @@ use Rattle.am_base.specs.declared.word.Cast.{Cast}
 use Rattle.am_base.specs.declared.word.Cast.TheVariants as cast
 use Rattle.am_base.specs.declared.word.Pred.{Pred}
 use Rattle.am_base.specs.declared.word.Pred.TheVariants as pred
-use Rattle.ir_form.specs.Bytes.{Text, Each, NotFirst, is_quote, is_colon, is_run_byte}
-use Rattle.ir_form.specs.Tokens.{IsSomeRun, IsDigits, IsSmallNumber, IsName, IsLabelName, IsToken}
-use Rattle.ir_form.specs.Front.{begins, is_digits, is_small_number, is_label_name, quoted_len, behind_mark, is_c, run_kind, run_token, quoted_token, marked_token, token}
-use Rattle.ir_form.specs.declared.token.TokenKind.{TokenKind}
-use Rattle.ir_form.specs.declared.token.TokenKind.TheVariants as kind
-use Rattle.ir_form.proofs.Spelled.{is_digits-IsDigits, IsDigits-is_digits, IsSmallNumber-is_small_number}
-use Rattle.ir_form.proofs.Reached.{token-run, token-quoted, name_len-IsName, quoted_len-IsQuoted}
-use Rattle.ir_form.proofs.Longest.{IsToken-token}
+use Rattle.ir_tokens.specs.Bytes.{Text, Each, NotFirst, is_quote, is_colon, is_run_byte, is_sign, begins}
+use Rattle.ir_tokens.specs.Tokens.{IsSomeRun, IsDigits, IsSmallNumber, IsName, IsLabelName, IsToken, is_digits, is_small_number}
+use Rattle.ir_tokens.specs.Front.{is_label_name, quoted_len, behind_mark, is_c, run_kind, run_token, quoted_token, marked_token, token}
+use Rattle.ir_tokens.specs.declared.token.TokenKind.{TokenKind}
+use Rattle.ir_tokens.specs.declared.token.TokenKind.TheVariants as kind
+use Rattle.ir_tokens.proofs.Classes.{begins-NotFirst}
+use Rattle.ir_tokens.proofs.Spelled.{is_digits-IsDigits, IsDigits-is_digits, IsSmallNumber-is_small_number}
+use Rattle.ir_tokens.proofs.Reached.{token-run, token-local, token-global, token-label, token-c, token-sign}
+use Rattle.ir_tokens.proofs.Longest.{IsToken-token}
 use Rattle.ir_tree.specs.declared.name.Name.{Name}
 use Rattle.ir_tree.specs.declared.name.Name.TheVariants as name
 use Rattle.ir_text.specs.Spelling as canon
@@ -56,7 +58,8 @@ unfolding run_token
 run_token-ends s rest h = let no = ends-quote rest h in rw (ends-colon rest h, no, and-no (is_c s)) refl
 
 run-token : (k : TokenKind) (s rest : Text) → run_kind s ≡ k → 0 < length s → Each is_run_byte s → NotFirst goes_on rest → IsToken k s rest
-run-token k s rest e some each h = IsToken-token k s rest (token-run s rest (some_run s rest some each h) ∙ ap (λ t. Some t) (run_token-ends s rest h) ∙ ap (λ v. Some (v, length s)) e)
+run-token k s rest e some each h = IsToken-token k s rest (token-run s rest (some_run s rest some each h) ∙ ap (λ t. Some t) (run_token-ends s rest h)
+    ∙ ap (λ v. Some (v, length s)) e)
 
 -- a word that a test computes
 pub word-fixed : (s : Text) → list_all is_run_byte s ≡ true → 0 < length s → run_kind s ≡ kind.Word → Fixed (canon.word s)
@@ -74,7 +77,8 @@ number-kind [] d = cc
 number-kind (b ∷ s) d = rw (or_left (is_digits (b ∷ s)) _ d) refl
 
 decimal-fixed : (n : ℕ) → n < 10 ^ 64 → Fixed (kind.Number, decimal n)
-decimal-fixed n w rest h = let d = decimal-IsDigits n w in run-token kind.Number (decimal n) rest (number-kind (decimal n) (decimal-is_digits n w)) d.some (digits-run (decimal n) d.whole) h
+decimal-fixed n w rest h = let d = decimal-IsDigits n w in run-token kind.Number (decimal n) rest (number-kind (decimal n) (decimal-is_digits n w)) d.some
+    (digits-run (decimal n) d.whole) h
 
 pub length-fixed : (n : ℕ) → n ≤ 2 ^ 32 → Fixed (canon.array_length n)
 length-fixed n h = decimal-fixed n (omega arith)
@@ -82,7 +86,8 @@ length-fixed n h = decimal-fixed n (omega arith)
 minus-fixed : (n : ℕ) → n < 10 ^ 64 → Fixed (kind.Number, 45 ∷ decimal n)
 minus-fixed n w rest h =
     let d = decimal-IsDigits n w in
-    run-token kind.Number (45 ∷ decimal n) rest (rw (or_right (is_digits (45 ∷ decimal n)) _ (decimal-is_digits n w)) refl) (omega arith) (digits-run (decimal n) d.whole) h
+    run-token kind.Number (45 ∷ decimal n) rest (rw (or_right (is_digits (45 ∷ decimal n)) _ (decimal-is_digits n w)) refl) (omega arith)
+    (digits-run (decimal n) d.whole) h
 
 pub number-fixed : (z : ℤ) → IsWide z → Fixed (canon.number z)
 number-fixed (pos n) h = decimal-fixed n (omega arith)
@@ -90,37 +95,8 @@ number-fixed (negsuc n) h = minus-fixed (suc n) (omega arith)
 
 -- ---- signs
 
-pub open-fixed : Fixed (canon.sign 40)
-unfolding token marked_token
-open-fixed rest h = IsToken-token (kind.Sign 40) (40 ∷ []) rest refl
-
-pub close-fixed : Fixed (canon.sign 41)
-unfolding token marked_token
-close-fixed rest h = IsToken-token (kind.Sign 41) (41 ∷ []) rest refl
-
-pub comma-fixed : Fixed canon.comma
-unfolding token marked_token
-comma-fixed rest h = IsToken-token (kind.Sign 44) (44 ∷ []) rest refl
-
-pub equals-fixed : Fixed (canon.sign 61)
-unfolding token marked_token
-equals-fixed rest h = IsToken-token (kind.Sign 61) (61 ∷ []) rest refl
-
-pub square-fixed : Fixed (canon.sign 91)
-unfolding token marked_token
-square-fixed rest h = IsToken-token (kind.Sign 91) (91 ∷ []) rest refl
-
-pub square_end-fixed : Fixed (canon.sign 93)
-unfolding token marked_token
-square_end-fixed rest h = IsToken-token (kind.Sign 93) (93 ∷ []) rest refl
-
-pub curly-fixed : Fixed (canon.sign 123)
-unfolding token marked_token
-curly-fixed rest h = IsToken-token (kind.Sign 123) (123 ∷ []) rest refl
-
-pub curly_end-fixed : Fixed (canon.sign 125)
-unfolding token marked_token
-curly_end-fixed rest h = IsToken-token (kind.Sign 125) (125 ∷ []) rest refl
+pub sign-fixed : (b : ℕ) → is_sign b ≡ true → Fixed (canon.sign b)
+sign-fixed b e rest h = IsToken-token (kind.Sign b) (b ∷ []) rest (token-sign b rest e)
 
 -- ---- names
 
@@ -128,45 +104,33 @@ curly_end-fixed rest h = IsToken-token (kind.Sign 125) (125 ∷ []) rest refl
 pub plain-IsName : (s : Text) → is_plain s ≡ true → (rest : Text) → NotFirst goes_on rest → IsName s rest
 plain-IsName s e rest h =
     let both = and_parts (is_run s) _ e in let run = and_parts _ _ both.0 in
-    inl (some_run s rest (ltb-true _ _ run.0) run.1 h, inr (first s (not-true _ both.1))) where
-      first : (t : Text) → begins is_ascii_digit t ≡ false → NotFirst is_ascii_digit t
-      first [] f = tt
-      first (b ∷ t) f = f
+    inl (some_run s rest (ltb-true _ _ run.0) run.1 h, inr (begins-NotFirst is_ascii_digit s (not-true _ both.1)))
 
 -- a run that is no digits
 pub label-IsLabelName : (s : Text) → is_plain_label s ≡ true → (rest : Text) → IsLabelName s (58 ∷ rest)
 label-IsLabelName s e rest =
     let both = and_parts (is_run s) _ e in let run = and_parts _ _ both.0 in
-    inl (record { some = ltb-true _ _ run.0; run = record { whole = run.1; ends = refl } }, inr (λ d. let yes = IsDigits-is_digits s d in let no = not-true _ both.1 in cc))
+    inl (
+      record { some = ltb-true _ _ run.0; run = record { whole = run.1; ends = refl } },
+      inr (λ d. let yes = IsDigits-is_digits s d in let no =
+          not-true _ both.1 in cc),
+    )
 
 spelled-IsName : (n : Name) → IsKept n → (rest : Text) → NotFirst goes_on rest → IsName (spelled_name is_plain n) rest
 spelled-IsName (name.Number n) k rest h =
     let d = decimal-IsDigits n (omega arith) in
     let value = decimal-value n (omega arith) in
     inl (some_run (decimal n) rest d.some (digits-run (decimal n) d.whole) h, inl (record { digits = d; small = omega arith }))
-spelled-IsName (name.Text s) k rest h = cond_both (is_plain s) s (in_quotes s) (λ t. IsName t rest) (λ e. plain-IsName s e rest h) (λ _. inr (quoted-IsQuoted s))
+spelled-IsName (name.Text s) k rest h = cond_both (is_plain s) s (in_quotes s) (λ t. IsName t rest) (λ e. plain-IsName s e rest h)
+    (λ _. inr (quoted-IsQuoted s))
 
 spelled-IsLabelName : (n : Name) → IsKept n → (rest : Text) → IsLabelName (spelled_name is_plain_label n) (58 ∷ rest)
 spelled-IsLabelName (name.Number n) k rest =
     let d = decimal-IsDigits n (omega arith) in
     let value = decimal-value n (omega arith) in
     inl (record { some = d.some; run = record { whole = digits-run (decimal n) d.whole; ends = refl } }, inl (record { digits = d; small = omega arith }))
-spelled-IsLabelName (name.Text s) k rest = cond_both (is_plain_label s) s (in_quotes s) (λ t. IsLabelName t (58 ∷ rest)) (λ e. label-IsLabelName s e rest) (λ _. inr (quoted-IsQuoted s))
-
-mark-some : (k : TokenKind) (n m : ℕ) → n ≡ m → 0 < m → behind_mark k n ≡ Some (k, m + 1)
-mark-some k n m e h = rw (e, lt-ltb 0 m h) refl
-
-some_name : (s rest : Text) → IsName s rest → 0 < length s
-some_name s rest (inl (r, h)) = r.some
-some_name s rest (inr q) = let len = ap length q.spelled in omega arith
-
-token-local : (s rest : Text) → IsName s rest → token (37 ∷ (s ++ rest)) ≡ Some (kind.Local, length s + 1)
-unfolding token marked_token
-token-local s rest i = mark-some kind.Local _ _ (name_len-IsName s rest i) (some_name s rest i)
-
-token-global : (s rest : Text) → IsName s rest → token (64 ∷ (s ++ rest)) ≡ Some (kind.Global, length s + 1)
-unfolding token marked_token
-token-global s rest i = mark-some kind.Global _ _ (name_len-IsName s rest i) (some_name s rest i)
+spelled-IsLabelName (name.Text s) k rest = cond_both (is_plain_label s) s (in_quotes s) (λ t. IsLabelName t (58 ∷ rest)) (λ e. label-IsLabelName s e rest)
+    (λ _. inr (quoted-IsQuoted s))
 
 one_more : (b : ℕ) (s : Text) → length s + 1 ≡ length (b ∷ s)
 one_more b s = omega arith
@@ -183,22 +147,6 @@ local-fixed n k rest h = local_name-fixed (spelled_name is_plain n) rest (spelle
 pub global-fixed : (n : Name) → IsKept n → Fixed (canon.global n)
 global-fixed n k rest h = global_name-fixed (spelled_name is_plain n) rest (spelled-IsName n k rest h)
 
-label_name : (s : Text) → IsSmallNumber s ⊎ (IsDigits s → ⊥) → is_label_name s ≡ true
-label_name s (inl n) = or_left _ _ (IsSmallNumber-is_small_number s n)
-label_name s (inr h) = or_right (is_small_number s) _ (ap not (false_from_ne_true _ (λ e. h (is_digits-IsDigits s e))))
-
-run_label : (s rest : Text) → is_label_name s ≡ true → run_token s (58 ∷ rest) ≡ (kind.Label, length s + 1)
-unfolding run_token
-run_label s rest h = rw h refl
-
-quoted_label : (n : ℕ) (rest : Text) → 0 < n → quoted_token n (58 ∷ rest) ≡ Some (kind.Label, n + 1)
-unfolding quoted_token
-quoted_label n rest h = rw (lt-ltb 0 n h) refl
-
-token-label : (s rest : Text) → IsLabelName s (58 ∷ rest) → token (s ++ (58 ∷ rest)) ≡ Some (kind.Label, length s + 1)
-token-label s rest (inl (r, h)) = token-run s (58 ∷ rest) r ∙ ap (λ t. Some t) (run_label s rest (label_name s h))
-token-label s rest (inr q) = token-quoted s (58 ∷ rest) q ∙ quoted_label (length s) rest (let len = ap length q.spelled in omega arith)
-
 pub label_name-fixed : (s rest : Text) → IsLabelName s (58 ∷ rest) → IsToken kind.Label (s ++ (58 ∷ [])) rest
 label_name-fixed s rest i =
     let count : length s + 1 ≡ length (s ++ (58 ∷ [])) = simp length-append (omega arith) in
@@ -209,18 +157,9 @@ label-fixed n k rest h = label_name-fixed (spelled_name is_plain_label n) rest (
 
 -- ---- texts
 
-c_string : (rest : Text) → begins is_colon rest ≡ false → 0 < quoted_len rest → run_token (99 ∷ []) rest ≡ (kind.CString, quoted_len rest + 1)
-unfolding run_token
-c_string rest h some = rw (h, lt-ltb 0 _ some) refl
-
 pub cstring-fixed : (s : Text) → Fixed (canon.cstring s)
-cstring-fixed s rest h =
-    let q = in_quotes s in
-    let len = quoted_len-IsQuoted q rest (quoted-IsQuoted s) in
-    let some : 0 < length q = omega arith in
-    let r : IsSomeRun is_run_byte (99 ∷ []) (q ++ rest) = record { some = omega arith; run = record { whole = refl; ends = refl } } in
-    let count : quoted_len (q ++ rest) + 1 ≡ length (99 ∷ q) = omega arith in
-    IsToken-token kind.CString (99 ∷ q) rest (token-run (99 ∷ []) (q ++ rest) r ∙ ap (λ t. Some t) (c_string (q ++ rest) refl (omega arith)) ∙ ap (λ n. Some (kind.CString, n)) count)
+cstring-fixed s rest h = IsToken-token kind.CString (99 ∷ in_quotes s) rest (token-c (in_quotes s) rest (quoted-IsQuoted s) ∙ ap (λ n. Some (kind.CString, n))
+    (one_more 99 (in_quotes s)))
 
 -- ---- words of tables
 

@@ -1,6 +1,6 @@
 -- What holds of each value that a rule reads from the tokens of a text, and that bytes are left of it.
 use Rattle.std.proofs.Common.{◌≡◌, ℕ, Bool, true, false, nat_lt, List, [], ◌∷◌, ◌++◌, Option, Some, sym, subst}
-use Rattle.ir_form.specs.Bytes.{Text, Each}
+use Rattle.ir_tokens.specs.Bytes.{Text, Each}
 use Rattle.ir_grammar.specs.Lexeme.{Lexeme, Lexemes}
 use Rattle.ir_grammar.specs.Rule.{Rule, ◌>>=◌, pure, refuse, one, look, either, where_it, many, ReadsMany, skip_many, further, some_listed, listed}
 use Rattle.ir_grammar.specs.Groups.{group_closed_by}
@@ -24,7 +24,8 @@ pub record Gives {A : Type 0} (p : Rule A) (P : A → Type 0) : Type 0 where
 abbrev pub Any : {A : Type 0} → A → Type 0
 Any x = Unit {0}
 
-pub gives-bind : {A B : Type 0} (p : Rule A) (f : A → Rule B) (P : A → Type 0) (Q : B → Type 0) → Gives p P → ((x : A) → P x → Gives (f x) Q) → Gives (p >>= f) Q
+pub gives-bind : {A B : Type 0} (p : Rule A) (f : A → Rule B) (P : A → Type 0) (Q : B → Type 0) → Gives p P → ((x : A) → P x → Gives (f x) Q)
+    → Gives (p >>= f) Q
 gives-bind p f P Q g h = record { gives = λ ts y rest k r. let a = g.gives ts r.0 r.1 k r.2 in (h r.0 a.0).gives r.1 y rest a.1 r.3 }
 
 pub gives-map : {A : Type 0} (p : Rule A) (P Q : A → Type 0) → ((x : A) → P x → Q x) → Gives p P → Gives p Q
@@ -65,13 +66,15 @@ SomeOf P [] = ⊥
 SomeOf P (x ∷ xs) = P x × EachOf P xs
 
 pub gives-some_listed : {A : Type 0} (begins : Lexemes → Bool) (p : Rule A) (P : A → Type 0) → Gives p P → Gives (some_listed begins p) (SomeOf P)
-gives-some_listed begins p P g = gives-bind _ _ P (SomeOf P) g (λ x a. gives-bind _ _ (EachOf P) (SomeOf P) (gives-further begins p P g) (λ xs b. gives-pure _ (SomeOf P) (a, b)))
+gives-some_listed begins p P g = gives-bind _ _ P (SomeOf P) g (λ x a. gives-bind _ _ (EachOf P) (SomeOf P) (gives-further begins p P g)
+    (λ xs b. gives-pure _ (SomeOf P) (a, b)))
 
 pub gives-listed : {A : Type 0} (begins : Lexemes → Bool) (p : Rule A) (P : A → Type 0) → Gives p P → Gives (listed begins p) (EachOf P)
-gives-listed begins p P g = gives-where_it begins _ _ (EachOf P) (gives-map (some_listed begins p) (SomeOf P) (EachOf P) (some_of P) (gives-some_listed begins p P g)) (gives-pure _ (EachOf P) tt) where
-  some_of : {A : Type 0} (P : A → Type 0) (xs : List A) → SomeOf P xs → EachOf P xs
-  some_of P [] h = tt
-  some_of P (x ∷ xs) h = h
+gives-listed begins p P g = gives-where_it begins _ _ (EachOf P) (gives-map (some_listed begins p) (SomeOf P) (EachOf P) (some_of P)
+    (gives-some_listed begins p P g)) (gives-pure _ (EachOf P) tt) where
+      some_of : {A : Type 0} (P : A → Type 0) (xs : List A) → SomeOf P xs → EachOf P xs
+      some_of P [] h = tt
+      some_of P (x ∷ xs) h = h
 
 -- ---- nothing is said of the value
 

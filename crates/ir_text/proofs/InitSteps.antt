@@ -1,6 +1,6 @@
 -- The tokens of each form of an initialiser, and how deep its lists are.
 use Rattle.std.proofs.Common.{◌≡◌, ℕ, zero, suc, ◌+◌, ◌<◌, ◌≤◌, List, [], ◌∷◌, ◌++◌, map, length, get_or, sym, ap, ◌∙◌, subst, arith}
-use Rattle.ir_form.specs.Bytes.{Text}
+use Rattle.ir_tokens.specs.Bytes.{Text}
 use Rattle.ir_tree.specs.declared.type_text.TyText.{TyText}
 use Rattle.ir_tree.specs.declared.operand.Opd.{Opd}
 use Rattle.ir_tree.specs.declared.operand.Init.{Init}
@@ -28,10 +28,12 @@ of_one s t x o e h = of_form s t x _ _ e (lexemes-One o) h
 pub of_text : (s t : Sheet) (x : Init) (text y : Text) → x ≡ initial.Text text → y ≡ text → Writes s t (cstring y ∷ []) → Writes s t (init_lexemes x)
 of_text s t x text y e f h = of_form s t x _ _ (e ∙ ap initial.Text (sym f)) (lexemes-Text y) h
 
-pub of_array : (s t : Sheet) (x : Init) (elements ys : List (TyText × Init)) → x ≡ initial.Array elements → ys ≡ elements → Writes s t (sign 91 ∷ (with_commas (map init_element ys) ++ sign 93 ∷ [])) → Writes s t (init_lexemes x)
+pub of_array : (s t : Sheet) (x : Init) (elements ys : List (TyText × Init)) → x ≡ initial.Array elements → ys ≡ elements
+    → Writes s t (sign 91 ∷ (with_commas (map init_element ys) ++ sign 93 ∷ [])) → Writes s t (init_lexemes x)
 of_array s t x elements ys e f h = of_form s t x _ _ (e ∙ ap initial.Array (sym f)) (lexemes-Array ys) h
 
-pub of_struct : (s t : Sheet) (x : Init) (fields ys : List (TyText × Init)) → x ≡ initial.Struct fields → ys ≡ fields → Writes s t (sign 123 ∷ (with_commas (map init_element ys) ++ sign 125 ∷ [])) → Writes s t (init_lexemes x)
+pub of_struct : (s t : Sheet) (x : Init) (fields ys : List (TyText × Init)) → x ≡ initial.Struct fields → ys ≡ fields
+    → Writes s t (sign 123 ∷ (with_commas (map init_element ys) ++ sign 125 ∷ [])) → Writes s t (init_lexemes x)
 of_struct s t x fields ys e f h = of_form s t x _ _ (e ∙ ap initial.Struct (sym f)) (lexemes-Struct ys) h
 
 -- ---- depth

@@ -1,14 +1,15 @@
 -- The lines of a canonical text are cut into exactly the lexemes that were meant.
-use Rattle.std.proofs.Common.{◌≡◌, ℕ, ◌+◌, ◌-◌, inl, inr, Bool, true, false, ◌&&◌, ◌||◌, ◌==◌, List, [], ◌∷◌, ◌++◌, length, take, drop, refl, sym, ap, ◌∙◌, subst, arith, eqb-true}
+use Rattle.std.proofs.Common.{◌≡◌, ℕ, ◌+◌, ◌-◌, inl, inr, Bool, true, false, ◌&&◌, ◌||◌, ◌==◌, List, [], ◌∷◌, ◌++◌, length, take, drop, refl, sym, ap, ◌∙◌}
+use Rattle.std.proofs.Common.{subst, arith, eqb-true}
 use Rattle.std.proofs.lemmas.Bool.{and_parts, or_cases, cond_both}
 use Rattle.std.proofs.lemmas.List.{append_assoc, append-nil, length-append}
 use Rattle.std.proofs.Math.Seq.{take-append_seam, drop-append_seam}
-use Rattle.ir_form.specs.Bytes.{Text, NotFirst}
-use Rattle.ir_form.specs.Tokens.{Skips, here, separator, comment, IsToken, Begins, HasTokens, spelling}
-use Rattle.ir_form.specs.declared.token.Token.{Token}
-use Rattle.ir_form.specs.declared.token.TokenKind.{TokenKind}
-use Rattle.ir_form.specs.declared.token.TokenKind.TheVariants as kind
-use Rattle.ir_form.proofs.Gaps.{Skips-front}
+use Rattle.ir_tokens.specs.Bytes.{Text, NotFirst}
+use Rattle.ir_tokens.specs.Tokens.{Skips, here, separator, comment, IsToken, Begins, HasTokens, spelling}
+use Rattle.ir_tokens.specs.declared.token.Token.{Token}
+use Rattle.ir_tokens.specs.declared.token.TokenKind.{TokenKind}
+use Rattle.ir_tokens.specs.declared.token.TokenKind.TheVariants as kind
+use Rattle.ir_tokens.proofs.Gaps.{Skips-front}
 use Rattle.ir_tree.specs.declared.item.Item.{Item}
 use Rattle.ir_tree.specs.declared.item.Item.TheVariants as tree
 use Rattle.ir_grammar.specs.Lexeme.{Lexeme, Lexemes, lexemes}
@@ -140,20 +141,30 @@ behind-ends k (m ∷ ms) tail (f, fs) h = cond_both (is_tight k m.0) [] (32 ∷ 
 gap-skips : (k m : TokenKind) (z : Text) → Skips z (gap k m ++ z)
 gap-skips k m z = cond_both (is_tight k m) [] (32 ∷ []) (λ g. Skips z (g ++ z)) (λ _. here) (λ _. separator 32 z refl here)
 
-cut-behind : (k : TokenKind) (ms : Lexemes) (tail : Text) (more : Lexemes) → AllFixed ms → NotFirst goes_on tail → Cut more tail → Cut (ms ++ more) (spaced_behind k ms ++ tail)
+cut-behind : (k : TokenKind) (ms : Lexemes) (tail : Text) (more : Lexemes) → AllFixed ms → NotFirst goes_on tail → Cut more tail
+    → Cut (ms ++ more) (spaced_behind k ms ++ tail)
 unfolding Cut
 cut-behind k [] tail more fs h c = c
 cut-behind k (m ∷ ms) tail more (f, fs) h c =
     let after = spaced_behind m.0 ms ++ tail in
-    let apart : (gap k m.0 ++ (m.1 ++ spaced_behind m.0 ms)) ++ tail ≡ gap k m.0 ++ (m.1 ++ after) = append_assoc (gap k m.0) (m.1 ++ spaced_behind m.0 ms) tail ∙ ap (λ z. gap k m.0 ++ z) (append_assoc m.1 (spaced_behind m.0 ms) tail) in
-    (after, subst (Skips (m.1 ++ after)) (sym apart) (gap-skips k m.0 (m.1 ++ after)), f after (behind-ends m.0 ms tail fs h), cut-behind m.0 ms tail more fs h c)
+    let apart : (gap k m.0 ++ (m.1 ++ spaced_behind m.0 ms)) ++ tail ≡ gap k m.0 ++ (m.1 ++ after) = append_assoc (gap k m.0)
+    (m.1 ++ spaced_behind m.0 ms) tail ∙ ap (λ z. gap k m.0 ++ z) (append_assoc m.1 (spaced_behind m.0 ms) tail) in (
+      after,
+      subst (Skips (m.1 ++ after)) (sym apart) (gap-skips k m.0 (m.1 ++ after)),
+      f after (behind-ends m.0 ms tail fs h),
+      cut-behind m.0 ms tail more fs h c,
+    )
 
 cut-spaced : (ls : Lexemes) (tail : Text) (more : Lexemes) → AllFixed ls → NotFirst goes_on tail → Cut more tail → Cut (ls ++ more) (spaced ls ++ tail)
 unfolding Cut
 cut-spaced [] tail more fs h c = c
 cut-spaced (l ∷ ls) tail more (f, fs) h c =
-    let after = spaced_behind l.0 ls ++ tail in
-    (after, subst (Skips (l.1 ++ after)) (sym (append_assoc l.1 (spaced_behind l.0 ls) tail)) here, f after (behind-ends l.0 ls tail fs h), cut-behind l.0 ls tail more fs h c)
+    let after = spaced_behind l.0 ls ++ tail in (
+      after,
+      subst (Skips (l.1 ++ after)) (sym (append_assoc l.1 (spaced_behind l.0 ls) tail)) here,
+      f after (behind-ends l.0 ls tail fs h),
+      cut-behind l.0 ls tail more fs h c,
+    )
 
 -- ---- lines
 
@@ -175,7 +186,8 @@ cut-canon (x ∷ xs) (b, bs) =
     let more = cut-skips (module_lexemes xs) (canon xs) end (separator 10 (canon xs) refl here) (cut-canon xs bs) in
     let apart : (indent x ++ (spaced ls ++ 10 ∷ [])) ++ canon xs ≡ indent x ++ (spaced ls ++ end) =
     append_assoc (indent x) (spaced ls ++ 10 ∷ []) (canon xs) ∙ ap (λ z. indent x ++ z) (append_assoc (spaced ls) (10 ∷ []) (canon xs)) in
-    cut-skips (ls ++ module_lexemes xs) (spaced ls ++ end) (line x ++ canon xs) (subst (Skips (spaced ls ++ end)) (sym apart) (indent-skips x (spaced ls ++ end))) (cut-spaced ls end (module_lexemes xs) b.back.fixed refl more)
+    cut-skips (ls ++ module_lexemes xs) (spaced ls ++ end) (line x ++ canon xs)
+    (subst (Skips (spaced ls ++ end)) (sym apart) (indent-skips x (spaced ls ++ end))) (cut-spaced ls end (module_lexemes xs) b.back.fixed refl more)
 
 -- a line alone
 pub cut-alone : (ls : Lexemes) → AllFixed ls → Cut ls (spaced ls)

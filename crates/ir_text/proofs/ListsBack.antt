@@ -7,7 +7,7 @@ use Rattle.ir_text.specs.Spelling.{comma}
 use Rattle.ir_text.specs.Parts.{joined, behind_commas, with_commas}
 use Rattle.ir_text.proofs.Gives.{EachOf}
 use Rattle.ir_text.proofs.Back.{AllFixed, fixed-append, Back, back-step, back-then_if, back-last, back-pure, back-yes, back-no, back-same}
-use Rattle.ir_text.proofs.FixedTokens.{comma-fixed}
+use Rattle.ir_text.proofs.FixedTokens.{sign-fixed}
 
 -- an element that is read again, and begins as one
 pub record Element {A : Type 0} (begins : Lexemes → Bool) (p : Rule A) (a : Lexemes) (x : A) (F : Lexemes → Type 0) : Type 0 where
@@ -31,8 +31,12 @@ module _ {A : Type 0} (begins : Lexemes → Bool) (p : Rule A) (lex : A → Lexe
     again [] es after b f = (b, refl)
     again (x ∷ xs) (e, es) after b f =
         let more = joined (map lex xs) ++ after in
-        let apart = sym (append_assoc (lex x) (joined (map lex xs)) after) in
-        (subst (λ ts. begins ts ≡ true) apart (e.begins_so more), more, subst (λ ts. p.reads ts x more) apart (e.back.again more (follows xs after f)), again xs es after b f)
+        let apart = sym (append_assoc (lex x) (joined (map lex xs)) after) in (
+          subst (λ ts. begins ts ≡ true) apart (e.begins_so more),
+          more,
+          subst (λ ts. p.reads ts x more) apart (e.back.again more (follows xs after f)),
+          again xs es after b f,
+        )
 
     pub many-back : (xs : List A) → Elements xs → Back (many begins p) (joined (map lex xs)) xs (λ after. (begins after ≡ false) × F after)
     many-back xs es = record { fixed = fixed xs es; again = λ after h. again xs es after h.0 h.1 }
@@ -47,10 +51,12 @@ module _ {A : Type 0} (begins : Lexemes → Bool) (p : Rule A) (lex : A → Lexe
 
   each : (xs : List A) → Elements begins p lex F xs → Elements (comma_then begins) (sign 44 >> p) behind_comma F xs
   each [] es = tt
-  each (x ∷ xs) (e, es) = (record { back = back-step _ _ comma tt (lex x) x F comma-fixed refl e.back; begins_so = e.begins_so }, each xs es)
+  each (x ∷ xs) (e, es) = (record { back = back-step _ _ comma tt (lex x) x F (sign-fixed 44 refl) refl e.back; begins_so = e.begins_so }, each xs es)
 
-  pub further-back : (xs : List A) → Elements begins p lex F xs → Back (further begins p) (behind_commas (map lex xs)) xs (λ after. (comma_then begins after ≡ false) × F after)
-  further-back xs es = back-same _ _ _ xs _ (commas xs) (many-back (comma_then begins) (sign 44 >> p) behind_comma F (λ x after. next (lex x ++ after)) xs (each xs es))
+  pub further-back : (xs : List A) → Elements begins p lex F xs → Back (further begins p) (behind_commas (map lex xs)) xs
+      (λ after. (comma_then begins after ≡ false) × F after)
+  further-back xs es = back-same _ _ _ xs _ (commas xs) (many-back (comma_then begins) (sign 44 >> p) behind_comma F (λ x after. next (lex x ++ after)) xs
+      (each xs es))
 
   -- what may follow a list with commas
   pub record Closes (after : Lexemes) : Type 0 where
@@ -62,11 +68,14 @@ module _ {A : Type 0} (begins : Lexemes → Bool) (p : Rule A) (lex : A → Lexe
   follows_element [] after f = f
   follows_element (x ∷ xs) after f = next ((lex x ++ behind_commas (map lex xs)) ++ after)
 
-  pub some-back : (x : A) (xs : List A) → Elements begins p lex F (x ∷ xs) → Back (some_listed begins p) (with_commas (map lex (x ∷ xs))) (x ∷ xs) (λ after. (comma_then begins after ≡ false) × F after)
-  some-back x xs (e, es) = back-then_if p _ (lex x) x (behind_commas (map lex xs)) (x ∷ xs) F _ e.back (λ after h. follows_element xs after h.1) (back-last _ _ _ xs _ (further-back xs es))
+  pub some-back : (x : A) (xs : List A) → Elements begins p lex F (x ∷ xs) → Back (some_listed begins p) (with_commas (map lex (x ∷ xs))) (x ∷ xs)
+      (λ after. (comma_then begins after ≡ false) × F after)
+  some-back x xs (e, es) = back-then_if p _ (lex x) x (behind_commas (map lex xs)) (x ∷ xs) F _ e.back (λ after h. follows_element xs after h.1)
+      (back-last _ _ _ xs _ (further-back xs es))
 
   pub listed-back : (xs : List A) → Elements begins p lex F xs → Back (listed begins p) (with_commas (map lex xs)) xs Closes
   listed-back [] es = back-no begins _ _ [] [] _ (λ after h. h.no_more) (back-pure [] _)
   listed-back (x ∷ xs) (e, es) = back-yes begins _ _ _ (x ∷ xs) _
-      (λ after h. subst (λ ts. begins ts ≡ true) (sym (append_assoc (lex x) (behind_commas (map lex xs)) after)) (e.begins_so (behind_commas (map lex xs) ++ after)))
+      (λ after h. subst (λ ts. begins ts ≡ true) (sym (append_assoc (lex x) (behind_commas (map lex xs)) after))
+      (e.begins_so (behind_commas (map lex xs) ++ after)))
       (let b = some-back x xs (e, es) in record { fixed = b.fixed; again = λ after h. b.again after (h.no_comma, h.after_element) })

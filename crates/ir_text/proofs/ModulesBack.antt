@@ -62,7 +62,8 @@ unfolding pieces
 kept-pieces n [] = refl
 kept-pieces n (x ∷ xs) = ap (λ more. x ∷ more) (kept-pieces n xs)
 
-front-again : (n : ℕ) (i : Bool) (xs : List Item) → EachOf ItemBack xs → Stand i xs → length (module_lexemes xs) ≤ n → Front n i (module_lexemes xs) (pieces n xs) false []
+front-again : (n : ℕ) (i : Bool) (xs : List Item) → EachOf ItemBack xs → Stand i xs → length (module_lexemes xs) ≤ n → Front n i (module_lexemes xs)
+    (pieces n xs) false []
 unfolding pieces
 front-again n i [] bs s small = (s, refl)
 front-again n i (x ∷ xs) (b, bs) (a, s) small =

@@ -1,7 +1,7 @@
 -- Operands and initialisers are read again.
 use Rattle.std.proofs.Common.{◌≡◌, false, List, [], ◌∷◌, ◌++◌, ℤ, codes, refl, sym, ap, ◌∙◌, subst, arith}
-use Rattle.ir_form.specs.Bytes.{Text}
-use Rattle.ir_form.specs.declared.token.TokenKind.TheVariants as kind
+use Rattle.ir_tokens.specs.Bytes.{Text}
+use Rattle.ir_tokens.specs.declared.token.TokenKind.TheVariants as kind
 use Rattle.ir_tree.specs.declared.name.Name.{Name}
 use Rattle.ir_tree.specs.declared.type_text.TyText.{TyText}
 use Rattle.ir_tree.specs.declared.operand.Opd.{Opd}
@@ -19,7 +19,7 @@ use Rattle.ir_text.specs.Parts.{type_lexemes, operand_lexemes, typed}
 use Rattle.ir_text.proofs.Gives.{EachOf, Gives, Any, gives-map, gives-bind, gives-pure, gives-one, gives-refuse, gives-look, gives-further, any-one}
 use Rattle.ir_text.proofs.Back.{Fixed, Always, Back, back-pure, back-step, back-then, back-then_if, back-last, back-none, back-look, back-same}
 use Rattle.ir_text.proofs.Values.{IsKept, IsWide, local-kept, local-again, global-kept, global-again, integer-kept, integer-again}
-use Rattle.ir_text.proofs.FixedTokens.{word-fixed, local-fixed, global-fixed, number-fixed, comma-fixed, open-fixed, close-fixed}
+use Rattle.ir_text.proofs.FixedTokens.{sign-fixed, word-fixed, local-fixed, global-fixed, number-fixed}
 use Rattle.ir_text.proofs.ListsBack.{Element, further-back}
 use Rattle.ir_text.proofs.TypesBack.{TypeBack, type-begins, type-gives}
 use Rattle.ir_text.proofs.Skipped.{flagged-any, flagged-none}
@@ -74,18 +74,35 @@ record Begun (s : OperandStart) (x : Opd) : Type 0 where
 
 local-begun : (n : Name) → IsKept n → Begun operands.Local (opd.Local n)
 unfolding operand_lexemes operand_start
-local-begun n k = record { starts = λ after. refl; back = back-step _ _ _ n _ _ _ (local-fixed n k) (local-again n k) (back-pure _ _); head = λ after. local _ after }
+local-begun n k = record {
+  starts = λ after. refl;
+  back = back-step _ _ _ n _ _ _ (local-fixed n k) (local-again n k) (back-pure _ _);
+  head =
+      λ after. local _ after;
+}
 
 global-begun : (n : Name) → IsKept n → Begun operands.Global (opd.Global n)
 unfolding operand_lexemes operand_start
-global-begun n k = record { starts = λ after. refl; back = back-step _ _ _ n _ _ _ (global-fixed n k) (global-again n k) (back-pure _ _); head = λ after. global _ after }
+global-begun n k = record {
+  starts = λ after. refl;
+  back = back-step _ _ _ n _ _ _ (global-fixed n k) (global-again n k) (back-pure _ _);
+  head =
+      λ after. global _ after;
+}
 
 number-begun : (z : ℤ) → IsWide z → Begun operands.Number (opd.Number z)
 unfolding operand_lexemes operand_start
-number-begun z k = record { starts = λ after. refl; back = back-step _ _ _ z _ _ _ (number-fixed z k) (integer-again z k) (back-pure _ _); head = λ after. number _ after }
+number-begun z k = record {
+  starts = λ after. refl;
+  back = back-step _ _ _ z _ _ _ (number-fixed z k) (integer-again z k) (back-pure _ _);
+  head =
+      λ after. number _ after;
+}
 
 -- one that is a word
-word-begun : (s : OperandStart) (x : Opd) (w : Text) → Fixed (word w) → operand_lexemes x ≡ word w ∷ [] → ((after : Lexemes) → operand_start (word w ∷ after) ≡ s) → Back (operand_by s) (word w ∷ []) x Always → ((after : Lexemes) → OperandHead (word w ∷ after)) → Begun s x
+word-begun : (s : OperandStart) (x : Opd) (w : Text) → Fixed (word w) → operand_lexemes x ≡ word w ∷ []
+    → ((after : Lexemes) → operand_start (word w ∷ after) ≡ s) → Back (operand_by s) (word w ∷ []) x Always
+    → ((after : Lexemes) → OperandHead (word w ∷ after)) → Begun s x
 word-begun s x w i e f b h = record {
   starts = λ after. ap (λ c. operand_start (c ++ after)) e ∙ f after;
   back = back-same _ _ _ x _ e b;
@@ -94,27 +111,54 @@ word-begun s x w i e f b h = record {
 
 true-begun : Begun operands.True opd.True
 unfolding operand_lexemes operand_start operand_word
-true-begun = record { starts = λ after. refl; back = back-step _ _ _ tt _ _ _ (word-fixed (codes "true") refl (omega arith) refl) refl (back-pure _ _); head = yes }
+true-begun = record {
+  starts = λ after. refl;
+  back = back-step _ _ _ tt _ _ _ (word-fixed (codes "true") refl (omega arith) refl) refl (back-pure _ _);
+  head =
+      yes;
+}
 
 false-begun : Begun operands.False opd.False
 unfolding operand_lexemes operand_start operand_word
-false-begun = record { starts = λ after. refl; back = back-step _ _ _ tt _ _ _ (word-fixed (codes "false") refl (omega arith) refl) refl (back-pure _ _); head = no }
+false-begun = record {
+  starts = λ after. refl;
+  back = back-step _ _ _ tt _ _ _ (word-fixed (codes "false") refl (omega arith) refl) refl (back-pure _ _);
+  head = no;
+}
 
 null-begun : Begun operands.Null opd.Null
 unfolding operand_lexemes operand_start operand_word
-null-begun = record { starts = λ after. refl; back = back-step _ _ _ tt _ _ _ (word-fixed (codes "null") refl (omega arith) refl) refl (back-pure _ _); head = null }
+null-begun = record {
+  starts = λ after. refl;
+  back = back-step _ _ _ tt _ _ _ (word-fixed (codes "null") refl (omega arith) refl) refl (back-pure _ _);
+  head =
+      null;
+}
 
 undef-begun : Begun operands.Undef opd.Undef
 unfolding operand_lexemes operand_start operand_word
-undef-begun = record { starts = λ after. refl; back = back-step _ _ _ tt _ _ _ (word-fixed (codes "undef") refl (omega arith) refl) refl (back-pure _ _); head = undef }
+undef-begun = record {
+  starts = λ after. refl;
+  back = back-step _ _ _ tt _ _ _ (word-fixed (codes "undef") refl (omega arith) refl) refl (back-pure _ _);
+  head = undef;
+}
 
 poison-begun : Begun operands.Poison opd.Poison
 unfolding operand_lexemes operand_start operand_word
-poison-begun = record { starts = λ after. refl; back = back-step _ _ _ tt _ _ _ (word-fixed (codes "poison") refl (omega arith) refl) refl (back-pure _ _); head = poison }
+poison-begun = record {
+  starts = λ after. refl;
+  back = back-step _ _ _ tt _ _ _ (word-fixed (codes "poison") refl (omega arith) refl) refl (back-pure _ _);
+  head = poison;
+}
 
 zero-begun : Begun operands.Zero opd.Zero
 unfolding operand_lexemes operand_start operand_word
-zero-begun = record { starts = λ after. refl; back = back-step _ _ _ tt _ _ _ (word-fixed (codes "zeroinitializer") refl (omega arith) refl) refl (back-pure _ _); head = zeros }
+zero-begun = record {
+  starts = λ after. refl;
+  back = back-step _ _ _ tt _ _ _ (word-fixed (codes "zeroinitializer") refl (omega arith) refl) refl
+      (back-pure _ _);
+  head = zeros;
+}
 
 -- ---- a constant of a getelementptr
 
@@ -123,28 +167,35 @@ Index i = Element sees_type constant_index (parts.constant_index i) i Always
 
 index-gives : Gives constant_index Index
 unfolding Index
-index-gives = gives-bind _ _ (TypeBack type_text) _ type-gives (λ t b. gives-bind _ _ IsWide _ (gives-one _ IsWide (λ l z _ e. integer-kept l z e)) (λ z w. gives-pure _ _ (record {
-  back = back-then _ _ _ t _ _ _ b.back (back-step _ _ _ z _ _ _ (number-fixed z w) (integer-again z w) (back-pure _ _));
-  begins_so = type-begins _ t _ b;
-})))
+index-gives = gives-bind _ _ (TypeBack type_text) _ type-gives (λ t b. gives-bind _ _ IsWide _ (gives-one _ IsWide (λ l z _ e. integer-kept l z e))
+    (λ z w. gives-pure _ _ (record {
+      back = back-then _ _ _ t _ _ _ b.back (back-step _ _ _ z _ _ _ (number-fixed z w) (integer-again z w) (back-pure _ _));
+      begins_so = type-begins _ t _ b;
+    })))
 
 no_flag : (after : Lexemes) → sees_flag (sign 40 ∷ after) ≡ false
 unfolding sees_flag flag_start
 no_flag after = refl
 
-get-begun : (of base : TyText) (n : Name) (indices : List (TyText × ℤ)) → TypeBack type_text of → TypeBack type_text base → IsKept n → EachOf Index indices → Begun operands.Get (opd.Get of base n indices)
+get-begun : (of base : TyText) (n : Name) (indices : List (TyText × ℤ)) → TypeBack type_text of → TypeBack type_text base → IsKept n → EachOf Index indices
+    → Begun operands.Get (opd.Get (of, base, n, indices))
 unfolding operand_lexemes operand_start operand_word Index
 get-begun of base n indices a b k es = record {
   starts = λ after. refl;
-  back = back-step _ _ _ tt _ _ _ (word-fixed (codes "getelementptr") refl (omega arith) refl) refl (back-none flagged _ _ _ _ (λ after _. flagged-none _ (no_flag _)) (back-step _ _ _ tt _ _ _ open-fixed refl
-      (back-then _ _ _ of _ _ _ a.back (back-step _ _ _ tt _ _ _ comma-fixed refl (back-then _ _ _ base _ _ _ b.back (back-step _ _ _ n _ _ _ (global-fixed n k) (global-again n k)
-      (back-then_if _ _ _ indices _ _ _ _ (further-back sees_type constant_index parts.constant_index Always (λ _. tt) indices es) (λ after _. (refl, tt)) (back-step _ _ _ tt _ _ _ close-fixed refl (back-pure _ _)))))))));
+  back = back-step _ _ _ tt _ _ _ (word-fixed (codes "getelementptr") refl (omega arith) refl) refl
+      (back-none flagged _ _ _ _ (λ after _. flagged-none _ (no_flag _)) (back-step _ _ _ tt _ _ _ (sign-fixed 40 refl) refl
+      (back-then _ _ _ of _ _ _ a.back (back-step _ _ _ tt _ _ _ (sign-fixed 44 refl) refl
+      (back-then _ _ _ base _ _ _ b.back (back-step _ _ _ n _ _ _ (global-fixed n k) (global-again n k)
+      (back-then_if _ _ _ indices _ _ _ _ (further-back sees_type constant_index parts.constant_index Always (λ _. tt) indices es) (λ after _. (refl, tt))
+      (back-step _ _ _ tt _ _ _ (sign-fixed 41 refl) refl (back-pure _ _)))))))));
   head = λ after. get _;
 }
 
 get-gives : Gives get_constant (Begun operands.Get)
-get-gives = gives-bind _ _ Any _ (any-one _) (λ _ _. gives-bind _ _ Any _ flagged-any (λ _ _. gives-bind _ _ Any _ (any-one _) (λ _ _. gives-bind _ _ (TypeBack type_text) _ type-gives (λ of a. gives-bind _ _ Any _ (any-one _) (λ _ _.
-    gives-bind _ _ (TypeBack type_text) _ type-gives (λ base b. gives-bind _ _ IsKept _ (gives-one _ IsKept global-kept) (λ n k. gives-bind _ _ (EachOf Index) _ (gives-further sees_type _ Index index-gives) (λ indices es.
+get-gives = gives-bind _ _ Any _ (any-one _) (λ _ _. gives-bind _ _ Any _ flagged-any
+    (λ _ _. gives-bind _ _ Any _ (any-one _) (λ _ _. gives-bind _ _ (TypeBack type_text) _ type-gives (λ of a. gives-bind _ _ Any _ (any-one _) (λ _ _.
+    gives-bind _ _ (TypeBack type_text) _ type-gives (λ base b. gives-bind _ _ IsKept _ (gives-one _ IsKept global-kept)
+    (λ n k. gives-bind _ _ (EachOf Index) _ (gives-further sees_type _ Index index-gives) (λ indices es.
     gives-bind _ _ Any _ (any-one _) (λ _ _. gives-pure _ _ (get-begun of base n indices a b k es))))))))))
 
 operand_by-gives : (s : OperandStart) → Gives (operand_by s) (Begun s)
@@ -181,4 +232,5 @@ pub record TypedBack (x : TyText × Opd) : Type 0 where
   pub back : Back typed_operand (typed x.0 x.1) x Always
 
 pub typed-gives : Gives typed_operand TypedBack
-typed-gives = gives-bind _ _ (TypeBack type_text) _ type-gives (λ t b. gives-bind _ _ OperandBack _ operand-gives (λ x c. gives-pure _ _ (record { type = b; operand = c; back = back-then _ _ _ t _ _ _ b.back (back-last _ _ _ x _ c.back) })))
+typed-gives = gives-bind _ _ (TypeBack type_text) _ type-gives (λ t b. gives-bind _ _ OperandBack _ operand-gives
+    (λ x c. gives-pure _ _ (record { type = b; operand = c; back = back-then _ _ _ t _ _ _ b.back (back-last _ _ _ x _ c.back) })))

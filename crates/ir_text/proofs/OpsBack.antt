@@ -8,7 +8,7 @@ use Rattle.am_base.specs.declared.word.Cast.{Cast}
 use Rattle.am_base.specs.declared.word.Cast.TheVariants as cast
 use Rattle.am_base.specs.declared.word.Pred.{Pred}
 use Rattle.am_base.specs.declared.word.Pred.TheVariants as pred
-use Rattle.ir_form.specs.Bytes.{Text}
+use Rattle.ir_tokens.specs.Bytes.{Text}
 use Rattle.ir_tree.specs.declared.name.Name.{Name}
 use Rattle.ir_tree.specs.declared.type_text.TyText.{TyText}
 use Rattle.ir_tree.specs.declared.type_text.TyText.TheVariants as ty
@@ -24,7 +24,8 @@ use Rattle.ir_grammar.specs.Lexeme.{Lexeme, Lexemes, sees_sign, sees_word}
 use Rattle.ir_grammar.specs.Rule.{Rule, ◌>>=◌, ◌>>◌, pure, next, look, where_it, many, comma_then}
 use Rattle.ir_grammar.specs.Rule as rule
 use Rattle.ir_grammar.specs.Words.{value_of}
-use Rattle.ir_grammar.specs.Starts.{op_start, op_word, sees_type, type_start, sees_skip, skip_start, skip_word, is_stop_word, item_start, item_word, sees_tail, sees_global_tail, tail_start}
+use Rattle.ir_grammar.specs.Starts.{op_start, op_word, sees_type, type_start, sees_skip, skip_start, skip_word, is_stop_word, item_start, item_word, sees_tail}
+use Rattle.ir_grammar.specs.Starts.{sees_global_tail, tail_start}
 use Rattle.ir_grammar.specs.Types.{type_text, result_type}
 use Rattle.ir_grammar.specs.Skips.{skipped, flagged, word_flags}
 use Rattle.ir_grammar.specs.Operands.{typed_operand}
@@ -34,13 +35,16 @@ use Rattle.ir_text.specs.Spelling as canon
 use Rattle.ir_text.specs.Spelling.{word, sign, comma, local, binary_word, cast_word}
 use Rattle.ir_text.specs.Parts as parts
 use Rattle.ir_text.specs.Parts.{type_lexemes, operand_lexemes, typed, op_lexemes, joined}
-use Rattle.ir_text.proofs.Gives.{EachOf, SomeOf, Gives, Any, gives-map, gives-bind, gives-pure, gives-one, gives-refuse, gives-look, gives-where_it, gives-many, gives-further, gives-some_listed, gives-listed, any-one}
-use Rattle.ir_text.proofs.Back.{Always, Back, back-pure, back-one, back-step, back-then, back-then_if, back-last, back-none, back-look, back-yes, back-no, back-same, back-under, back-any}
+use Rattle.ir_text.proofs.Gives.{EachOf, SomeOf, Gives, Any, gives-map, gives-bind, gives-pure, gives-one, gives-refuse, gives-look, gives-where_it, gives-many}
+use Rattle.ir_text.proofs.Gives.{gives-further, gives-some_listed, gives-listed, any-one}
+use Rattle.ir_text.proofs.Back.{Always, Back, back-pure, back-one, back-step, back-then, back-then_if, back-last, back-none, back-look, back-yes, back-no}
+use Rattle.ir_text.proofs.Back.{back-same, back-under, back-any}
 use Rattle.ir_text.proofs.Values.{IsKept, local-kept, local-again, global-kept, global-again}
-use Rattle.ir_text.proofs.FixedTokens.{word-fixed, binary-fixed, cast-fixed, predicate-fixed, local-fixed, global-fixed, comma-fixed, open-fixed, close-fixed, square-fixed, square_end-fixed}
+use Rattle.ir_text.proofs.FixedTokens.{sign-fixed, word-fixed, binary-fixed, cast-fixed, predicate-fixed, local-fixed, global-fixed}
 use Rattle.ir_text.proofs.ListsBack.{Element, many-back, further-back, some-back, Closes, listed-back}
 use Rattle.ir_text.proofs.TypesBack.{TypeHead, TypeBack, type-head, type-begins, type-gives, head-sees_type, lexemes-Void}
-use Rattle.ir_text.proofs.Skipped.{flagged-any, flagged-none, word_flags-any, word_flags-none, optional-any, back-optional, skipped-any, skipped-none, head-no_skip, head-no_flag, head-no_word}
+use Rattle.ir_text.proofs.Skipped.{flagged-any, flagged-none, word_flags-any, word_flags-none, optional-any, back-optional, skipped-any, skipped-none}
+use Rattle.ir_text.proofs.Skipped.{head-no_skip, head-no_flag, head-no_word}
 use Rattle.ir_text.proofs.OperandsBack.{OperandBack, operand-no_skip, operand-gives, TypedBack, typed-gives}
 
 -- what may stand behind an item
@@ -69,7 +73,11 @@ pub record OpHead (ts : Lexemes) : Type 0 where
 
 word-head : (s : OpStart) (w : Text) (ts : Lexemes) → Known s w → OpHead (word w ∷ ts)
 unfolding sees_skip skip_start sees_tail sees_global_tail tail_start item_start
-word-head s w ts k = record { behind = record { no_comma = refl; no_skip = rw (k.no_skip) refl; no_tail = refl; no_global_tail = refl }; other = k.no_item; no_type = k.no_type }
+word-head s w ts k = record {
+  behind = record { no_comma = refl; no_skip = rw (k.no_skip) refl; no_tail = refl; no_global_tail = refl };
+  other = k.no_item;
+  no_type = k.no_type;
+}
 
 -- an instruction that is read again by the rule of its word
 pub record OpBack (o : Op) : Type 0 where
@@ -105,10 +113,12 @@ binary-back : (b : BinOp) (t : TyText) (x y : Opd) → TypeBack type_text t → 
 unfolding op_lexemes
 binary-back b t x y k h g = started (ops.Bin b) _ (binary_word b) _ refl (binary-known b) (back-step _ _ _ tt _ _ _ (binary-fixed b) refl
     (back-none (word_flags arithmetic_flags) _ _ _ _ (λ after _. word_flags-none _ _ (head-no_word _ (type-head _ t _ k after)).3)
-    (back-then _ _ _ t _ _ _ k.back (back-then _ _ _ x _ _ _ h.back (back-step _ _ _ tt _ _ _ comma-fixed refl (back-last _ _ _ y _ (back-any _ _ _ _ g.back)))))))
+    (back-then _ _ _ t _ _ _ k.back (back-then _ _ _ x _ _ _ h.back (back-step _ _ _ tt _ _ _ (sign-fixed 44 refl) refl
+    (back-last _ _ _ y _ (back-any _ _ _ _ g.back)))))))
 
 binary-gives : (b : BinOp) → Gives (rules.binary b) OpBack
-binary-gives b = gives-bind _ _ Any _ (word_flags-any _) (λ _ _. gives-bind _ _ (TypeBack type_text) _ type-gives (λ t k. gives-bind _ _ OperandBack _ operand-gives (λ x h. gives-bind _ _ Any _ (any-one _) (λ _ _.
+binary-gives b = gives-bind _ _ Any _ (word_flags-any _) (λ _ _. gives-bind _ _ (TypeBack type_text) _ type-gives
+    (λ t k. gives-bind _ _ OperandBack _ operand-gives (λ x h. gives-bind _ _ Any _ (any-one _) (λ _ _.
     gives-bind _ _ OperandBack _ operand-gives (λ y g. gives-pure _ _ (binary-back b t x y k h g))))))
 
 -- ---- icmp
@@ -144,12 +154,15 @@ icmp-known = record { op = refl; no_skip = refl; no_item = refl; no_type = refl 
 
 compare-back : (p : Pred) (t : TyText) (x y : Opd) → TypeBack type_text t → OperandBack x → OperandBack y → OpBack (op.Cmp p t x y)
 unfolding op_lexemes
-compare-back p t x y k h g = started ops.Cmp _ (codes "icmp") _ refl icmp-known (back-step _ _ _ tt _ _ _ (word-fixed (codes "icmp") refl (omega arith) refl) refl
+compare-back p t x y k h g = started ops.Cmp _ (codes "icmp") _ refl icmp-known
+    (back-step _ _ _ tt _ _ _ (word-fixed (codes "icmp") refl (omega arith) refl) refl
     (back-optional (codes "samesign") _ _ _ _ (λ after _. no_samesign p) (back-step _ _ _ p _ _ _ (predicate-fixed p) (predicate-again p)
-    (back-then _ _ _ t _ _ _ k.back (back-then _ _ _ x _ _ _ h.back (back-step _ _ _ tt _ _ _ comma-fixed refl (back-last _ _ _ y _ (back-any _ _ _ _ g.back))))))))
+    (back-then _ _ _ t _ _ _ k.back (back-then _ _ _ x _ _ _ h.back (back-step _ _ _ tt _ _ _ (sign-fixed 44 refl) refl
+    (back-last _ _ _ y _ (back-any _ _ _ _ g.back))))))))
 
 compare-gives : Gives rules.compare OpBack
-compare-gives = gives-bind _ _ Any _ (optional-any _) (λ _ _. gives-bind _ _ Any _ (any-one _) (λ p _. gives-bind _ _ (TypeBack type_text) _ type-gives (λ t k. gives-bind _ _ OperandBack _ operand-gives (λ x h. gives-bind _ _ Any _ (any-one _) (λ _ _.
+compare-gives = gives-bind _ _ Any _ (optional-any _) (λ _ _. gives-bind _ _ Any _ (any-one _) (λ p _. gives-bind _ _ (TypeBack type_text) _ type-gives
+    (λ t k. gives-bind _ _ OperandBack _ operand-gives (λ x h. gives-bind _ _ Any _ (any-one _) (λ _ _.
     gives-bind _ _ OperandBack _ operand-gives (λ y g. gives-pure _ _ (compare-back p t x y k h g)))))))
 
 -- ---- select, casts, freeze
@@ -160,11 +173,14 @@ select-known = record { op = refl; no_skip = refl; no_item = refl; no_type = ref
 
 select-back : (c x y : TyText × Opd) → TypedBack c → TypedBack x → TypedBack y → OpBack (op.Select c.0 c.1 x.0 x.1 y.0 y.1)
 unfolding op_lexemes
-select-back c x y k h g = started ops.Select _ (codes "select") _ refl select-known (back-step _ _ _ tt _ _ _ (word-fixed (codes "select") refl (omega arith) refl) refl
-    (back-then _ _ _ c _ _ _ k.back (back-step _ _ _ tt _ _ _ comma-fixed refl (back-then _ _ _ x _ _ _ h.back (back-step _ _ _ tt _ _ _ comma-fixed refl (back-last _ _ _ y _ (back-any _ _ _ _ g.back)))))))
+select-back c x y k h g = started ops.Select _ (codes "select") _ refl select-known
+    (back-step _ _ _ tt _ _ _ (word-fixed (codes "select") refl (omega arith) refl) refl
+    (back-then _ _ _ c _ _ _ k.back (back-step _ _ _ tt _ _ _ (sign-fixed 44 refl) refl
+    (back-then _ _ _ x _ _ _ h.back (back-step _ _ _ tt _ _ _ (sign-fixed 44 refl) refl (back-last _ _ _ y _ (back-any _ _ _ _ g.back)))))))
 
 select-gives : Gives rules.select OpBack
-select-gives = gives-bind _ _ TypedBack _ typed-gives (λ c k. gives-bind _ _ Any _ (any-one _) (λ _ _. gives-bind _ _ TypedBack _ typed-gives (λ x h. gives-bind _ _ Any _ (any-one _) (λ _ _.
+select-gives = gives-bind _ _ TypedBack _ typed-gives (λ c k. gives-bind _ _ Any _ (any-one _)
+    (λ _ _. gives-bind _ _ TypedBack _ typed-gives (λ x h. gives-bind _ _ Any _ (any-one _) (λ _ _.
     gives-bind _ _ TypedBack _ typed-gives (λ y g. gives-pure _ _ (select-back c x y k h g))))))
 
 cast-known : (c : Cast) → Known (ops.Cast c) (cast_word c)
@@ -183,10 +199,12 @@ cast-back : (c : Cast) (x : TyText × Opd) (to : TyText) → TypedBack x → Typ
 unfolding op_lexemes
 cast-back c x to h k = started (ops.Cast c) _ (cast_word c) _ refl (cast-known c) (back-step _ _ _ tt _ _ _ (cast-fixed c) refl
     (back-none (word_flags cast_flags) _ _ _ _ (λ after _. word_flags-none _ _ (head-no_word _ (typed-head x _ h after)).4)
-    (back-then _ _ _ x _ _ _ h.back (back-step _ _ _ tt _ _ _ (word-fixed (codes "to") refl (omega arith) refl) refl (back-last _ _ _ to _ (back-any _ _ _ _ k.back))))))
+    (back-then _ _ _ x _ _ _ h.back (back-step _ _ _ tt _ _ _ (word-fixed (codes "to") refl (omega arith) refl) refl
+    (back-last _ _ _ to _ (back-any _ _ _ _ k.back))))))
 
 cast-gives : (c : Cast) → Gives (rules.conversion c) OpBack
-cast-gives c = gives-bind _ _ Any _ (word_flags-any _) (λ _ _. gives-bind _ _ TypedBack _ typed-gives (λ x h. gives-bind _ _ Any _ (any-one _) (λ _ _. gives-bind _ _ (TypeBack type_text) _ type-gives (λ to k. gives-pure _ _ (cast-back c x to h k)))))
+cast-gives c = gives-bind _ _ Any _ (word_flags-any _) (λ _ _. gives-bind _ _ TypedBack _ typed-gives
+    (λ x h. gives-bind _ _ Any _ (any-one _) (λ _ _. gives-bind _ _ (TypeBack type_text) _ type-gives (λ to k. gives-pure _ _ (cast-back c x to h k)))))
 
 freeze-known : Known ops.Freeze (codes "freeze")
 unfolding op_word skip_word is_stop_word item_word
@@ -194,7 +212,8 @@ freeze-known = record { op = refl; no_skip = refl; no_item = refl; no_type = ref
 
 freeze-back : (x : TyText × Opd) → TypedBack x → OpBack (op.Freeze x.0 x.1)
 unfolding op_lexemes
-freeze-back x h = started ops.Freeze _ (codes "freeze") _ refl freeze-known (back-step _ _ _ tt _ _ _ (word-fixed (codes "freeze") refl (omega arith) refl) refl (back-last _ _ _ x _ (back-any _ _ _ _ h.back)))
+freeze-back x h = started ops.Freeze _ (codes "freeze") _ refl freeze-known
+    (back-step _ _ _ tt _ _ _ (word-fixed (codes "freeze") refl (omega arith) refl) refl (back-last _ _ _ x _ (back-any _ _ _ _ h.back)))
 
 freeze-gives : Gives rules.freeze OpBack
 freeze-gives = gives-bind _ _ TypedBack _ typed-gives (λ x h. gives-pure _ _ (freeze-back x h))
@@ -211,13 +230,15 @@ CountBack n = Back rules.count (parts.count n) n Behind
 count-gives : Gives rules.count CountBack
 unfolding CountBack
 count-gives = gives-where_it _ _ _ _
-    (gives-bind _ _ TypedBack _ (gives-bind _ _ Any _ (any-one _) (λ _ _. typed-gives)) (λ x h. gives-pure _ _ (back-yes (comma_then sees_type) _ _ _ (Some x) _ (λ after _. type-begins _ x.0 _ h.type after)
-    (back-last (rule.sign 44 >> typed_operand) Some _ x _ (back-step _ _ _ tt _ _ _ comma-fixed refl (back-any _ _ _ _ h.back))))))
+    (gives-bind _ _ TypedBack _ (gives-bind _ _ Any _ (any-one _) (λ _ _. typed-gives))
+    (λ x h. gives-pure _ _ (back-yes (comma_then sees_type) _ _ _ (Some x) _ (λ after _. type-begins _ x.0 _ h.type after)
+    (back-last (rule.sign 44 >> typed_operand) Some _ x _ (back-step _ _ _ tt _ _ _ (sign-fixed 44 refl) refl (back-any _ _ _ _ h.back))))))
     (gives-pure _ _ (back-no (comma_then sees_type) _ _ [] None _ (λ after h. no_comma_then sees_type after h) (back-pure _ _)))
 
 alloca-back : (t : TyText) (n : Option (TyText × Opd)) → TypeBack type_text t → CountBack n → OpBack (op.Alloca t n)
 unfolding op_lexemes CountBack
-alloca-back t n k h = started ops.Alloca _ (codes "alloca") _ refl alloca-known (back-step _ _ _ tt _ _ _ (word-fixed (codes "alloca") refl (omega arith) refl) refl
+alloca-back t n k h = started ops.Alloca _ (codes "alloca") _ refl alloca-known
+    (back-step _ _ _ tt _ _ _ (word-fixed (codes "alloca") refl (omega arith) refl) refl
     (back-then _ _ _ t _ _ _ k.back (back-last _ _ _ n _ h)))
 
 alloca-gives : Gives rules.alloca OpBack
@@ -231,10 +252,11 @@ load-back : (t : TyText) (address : TyText × Opd) → TypeBack type_text t → 
 unfolding op_lexemes
 load-back t x k h = started ops.Load _ (codes "load") _ refl load-known (back-step _ _ _ tt _ _ _ (word-fixed (codes "load") refl (omega arith) refl) refl
     (back-optional (codes "volatile") _ _ _ _ (λ after _. (head-no_word _ (type-head _ t _ k after)).2)
-    (back-then _ _ _ t _ _ _ k.back (back-step _ _ _ tt _ _ _ comma-fixed refl (back-last _ _ _ x _ (back-any _ _ _ _ h.back))))))
+    (back-then _ _ _ t _ _ _ k.back (back-step _ _ _ tt _ _ _ (sign-fixed 44 refl) refl (back-last _ _ _ x _ (back-any _ _ _ _ h.back))))))
 
 load-gives : Gives rules.load OpBack
-load-gives = gives-bind _ _ Any _ (optional-any _) (λ _ _. gives-bind _ _ (TypeBack type_text) _ type-gives (λ t k. gives-bind _ _ Any _ (any-one _) (λ _ _. gives-bind _ _ TypedBack _ typed-gives (λ x h. gives-pure _ _ (load-back t x k h)))))
+load-gives = gives-bind _ _ Any _ (optional-any _) (λ _ _. gives-bind _ _ (TypeBack type_text) _ type-gives
+    (λ t k. gives-bind _ _ Any _ (any-one _) (λ _ _. gives-bind _ _ TypedBack _ typed-gives (λ x h. gives-pure _ _ (load-back t x k h)))))
 
 store-known : Known ops.Store (codes "store")
 unfolding op_word skip_word is_stop_word item_word
@@ -244,10 +266,11 @@ store-back : (x address : TyText × Opd) → TypedBack x → TypedBack address �
 unfolding op_lexemes
 store-back x y h k = started ops.Store _ (codes "store") _ refl store-known (back-step _ _ _ tt _ _ _ (word-fixed (codes "store") refl (omega arith) refl) refl
     (back-optional (codes "volatile") _ _ _ _ (λ after _. (head-no_word _ (typed-head x _ h after)).2)
-    (back-then _ _ _ x _ _ _ h.back (back-step _ _ _ tt _ _ _ comma-fixed refl (back-last _ _ _ y _ (back-any _ _ _ _ k.back))))))
+    (back-then _ _ _ x _ _ _ h.back (back-step _ _ _ tt _ _ _ (sign-fixed 44 refl) refl (back-last _ _ _ y _ (back-any _ _ _ _ k.back))))))
 
 store-gives : Gives rules.store OpBack
-store-gives = gives-bind _ _ Any _ (optional-any _) (λ _ _. gives-bind _ _ TypedBack _ typed-gives (λ x h. gives-bind _ _ Any _ (any-one _) (λ _ _. gives-bind _ _ TypedBack _ typed-gives (λ y k. gives-pure _ _ (store-back x y h k)))))
+store-gives = gives-bind _ _ Any _ (optional-any _) (λ _ _. gives-bind _ _ TypedBack _ typed-gives
+    (λ x h. gives-bind _ _ Any _ (any-one _) (λ _ _. gives-bind _ _ TypedBack _ typed-gives (λ y k. gives-pure _ _ (store-back x y h k)))))
 
 -- ---- getelementptr
 
@@ -262,16 +285,21 @@ typed-element : (x : TyText × Opd) → TypedBack x → TypedElement x
 unfolding TypedElement
 typed-element x h = record { back = h.back; begins_so = λ after. type-begins _ x.0 _ h.type after }
 
-get-back : (of : TyText) (base : TyText × Opd) (indices : List (TyText × Opd)) → TypeBack type_text of → TypedBack base → EachOf TypedElement indices → OpBack (op.Get of base.0 base.1 indices)
+get-back : (of : TyText) (base : TyText × Opd) (indices : List (TyText × Opd)) → TypeBack type_text of → TypedBack base → EachOf TypedElement indices
+    → OpBack (op.Get of base.0 base.1 indices)
 unfolding op_lexemes TypedElement
-get-back of base indices k h es = started ops.Get _ (codes "getelementptr") _ refl get-known (back-step _ _ _ tt _ _ _ (word-fixed (codes "getelementptr") refl (omega arith) refl) refl
+get-back of base indices k h es = started ops.Get _ (codes "getelementptr") _ refl get-known
+    (back-step _ _ _ tt _ _ _ (word-fixed (codes "getelementptr") refl (omega arith) refl) refl
     (back-none flagged _ _ _ _ (λ after _. flagged-none _ (head-no_flag _ (type-head _ of _ k after)))
-    (back-then _ _ _ of _ _ _ k.back (back-step _ _ _ tt _ _ _ comma-fixed refl (back-then _ _ _ base _ _ _ h.back
-    (back-last _ _ _ indices _ (back-under _ _ _ Behind _ (λ after b. (no_comma_then sees_type after b, tt)) (further-back sees_type typed_operand parts.typed_operand Always (λ _. tt) indices es))))))))
+    (back-then _ _ _ of _ _ _ k.back (back-step _ _ _ tt _ _ _ (sign-fixed 44 refl) refl (back-then _ _ _ base _ _ _ h.back
+    (back-last _ _ _ indices _ (back-under _ _ _ Behind _ (λ after b. (no_comma_then sees_type after b, tt))
+    (further-back sees_type typed_operand parts.typed_operand Always (λ _. tt) indices es))))))))
 
 get-gives : Gives rules.get OpBack
-get-gives = gives-bind _ _ Any _ flagged-any (λ _ _. gives-bind _ _ (TypeBack type_text) _ type-gives (λ of k. gives-bind _ _ Any _ (any-one _) (λ _ _. gives-bind _ _ TypedBack _ typed-gives (λ base h.
-    gives-bind _ _ (EachOf TypedElement) _ (gives-further sees_type _ TypedElement (gives-map _ _ _ typed-element typed-gives)) (λ indices es. gives-pure _ _ (get-back of base indices k h es))))))
+get-gives = gives-bind _ _ Any _ flagged-any (λ _ _. gives-bind _ _ (TypeBack type_text) _ type-gives
+    (λ of k. gives-bind _ _ Any _ (any-one _) (λ _ _. gives-bind _ _ TypedBack _ typed-gives (λ base h.
+    gives-bind _ _ (EachOf TypedElement) _ (gives-further sees_type _ TypedElement (gives-map _ _ _ typed-element typed-gives))
+    (λ indices es. gives-pure _ _ (get-back of base indices k h es))))))
 
 -- ---- phi
 
@@ -284,20 +312,27 @@ EntryBack e = Element (sees_sign 91) rules.entry (parts.entry e) e Always
 
 entry-gives : Gives rules.entry EntryBack
 unfolding EntryBack
-entry-gives = gives-bind _ _ Any _ (any-one _) (λ _ _. gives-bind _ _ OperandBack _ operand-gives (λ x h. gives-bind _ _ Any _ (any-one _) (λ _ _. gives-bind _ _ IsKept _ (gives-one _ IsKept local-kept) (λ n k. gives-bind _ _ Any _ (any-one _) (λ _ _.
+entry-gives = gives-bind _ _ Any _ (any-one _) (λ _ _. gives-bind _ _ OperandBack _ operand-gives
+    (λ x h. gives-bind _ _ Any _ (any-one _) (λ _ _. gives-bind _ _ IsKept _ (gives-one _ IsKept local-kept) (λ n k. gives-bind _ _ Any _ (any-one _) (λ _ _.
     gives-pure _ _ (record {
-      back = back-step _ _ _ tt _ _ _ square-fixed refl (back-then _ _ _ x _ _ _ h.back (back-step _ _ _ tt _ _ _ comma-fixed refl (back-step _ _ _ n _ _ _ (local-fixed n k) (local-again n k) (back-step _ _ _ tt _ _ _ square_end-fixed refl (back-pure _ _)))));
+      back = back-step _ _ _ tt _ _ _ (sign-fixed 91 refl) refl
+          (back-then _ _ _ x _ _ _ h.back (back-step _ _ _ tt _ _ _ (sign-fixed 44 refl) refl (back-step _ _ _ n _ _ _ (local-fixed n k) (local-again n k)
+          (back-step _ _ _ tt _ _ _ (sign-fixed 93 refl) refl (back-pure _ _)))));
       begins_so = λ after. refl;
     }))))))
 
 phi-back : (t : TyText) (entries : List (Opd × Name)) → TypeBack type_text t → SomeOf EntryBack entries → OpBack (op.Phi t entries)
 unfolding op_lexemes EntryBack
 phi-back t [] k es = absurd es
-phi-back t (e ∷ entries) k es = started ops.Phi _ (codes "phi") _ refl phi-known (back-step _ _ _ tt _ _ _ (word-fixed (codes "phi") refl (omega arith) refl) refl
-    (back-then _ _ _ t _ _ _ k.back (back-last _ _ _ (e ∷ entries) _ (back-under _ _ _ Behind _ (λ after b. (no_comma_then (sees_sign 91) after b, tt)) (some-back (sees_sign 91) rules.entry parts.entry Always (λ _. tt) e entries es)))))
+phi-back t (e ∷ entries) k es = started ops.Phi _ (codes "phi") _ refl phi-known
+    (back-step _ _ _ tt _ _ _ (word-fixed (codes "phi") refl (omega arith) refl) refl
+    (back-then _ _ _ t _ _ _ k.back (back-last _ _ _ (e ∷ entries) _ (back-under _ _ _ Behind _ (λ after b. (no_comma_then (sees_sign 91) after b, tt))
+    (some-back (sees_sign 91) rules.entry parts.entry Always (λ _. tt) e entries es)))))
 
 phi-gives : Gives rules.phi OpBack
-phi-gives = gives-bind _ _ (TypeBack type_text) _ type-gives (λ t k. gives-bind _ _ (SomeOf EntryBack) _ (gives-some_listed (sees_sign 91) _ EntryBack entry-gives) (λ entries es. gives-pure _ _ (phi-back t entries k es)))
+phi-gives = gives-bind _ _ (TypeBack type_text) _ type-gives
+    (λ t k. gives-bind _ _ (SomeOf EntryBack) _ (gives-some_listed (sees_sign 91) _ EntryBack entry-gives)
+    (λ entries es. gives-pure _ _ (phi-back t entries k es)))
 
 -- ---- call
 
@@ -311,7 +346,8 @@ void-no_skip ts = refl
 
 void-back : ResultBack ty.Void
 void-back = record {
-  back = back-same _ _ _ ty.Void _ lexemes-Void (back-yes (sees_word (codes "void")) _ _ _ ty.Void _ (λ after _. refl) (back-step _ _ _ tt _ _ _ (word-fixed (codes "void") refl (omega arith) refl) refl (back-pure _ _)));
+  back = back-same _ _ _ ty.Void _ lexemes-Void (back-yes (sees_word (codes "void")) _ _ _ ty.Void _ (λ after _. refl)
+      (back-step _ _ _ tt _ _ _ (word-fixed (codes "void") refl (omega arith) refl) refl (back-pure _ _)));
   no_skip = λ b after. subst (λ c. sees_skip ((c ++ b) ++ after) ≡ false) (sym lexemes-Void) (void-no_skip (b ++ after));
 }
 
@@ -329,10 +365,12 @@ ArgumentBack x = Element sees_type rules.argument (parts.typed_operand x) x Alwa
 
 argument-gives : Gives rules.argument ArgumentBack
 unfolding ArgumentBack
-argument-gives = gives-bind _ _ (TypeBack type_text) _ type-gives (λ t k. gives-bind _ _ Any _ skipped-any (λ _ _. gives-bind _ _ OperandBack _ operand-gives (λ x h. gives-pure _ _ (record {
-  back = back-then _ _ _ t _ _ _ k.back (back-none skipped _ _ _ _ (λ after _. skipped-none _ (operand-no_skip _ (h.head after))) (back-last _ _ _ x _ h.back));
-  begins_so = type-begins _ t _ k;
-}))))
+argument-gives = gives-bind _ _ (TypeBack type_text) _ type-gives
+    (λ t k. gives-bind _ _ Any _ skipped-any (λ _ _. gives-bind _ _ OperandBack _ operand-gives (λ x h. gives-pure _ _ (record {
+      back = back-then _ _ _ t _ _ _ k.back (back-none skipped _ _ _ _ (λ after _. skipped-none _ (operand-no_skip _ (h.head after)))
+          (back-last _ _ _ x _ h.back));
+      begins_so = type-begins _ t _ k;
+    }))))
 
 call-known : Known ops.Call (codes "call")
 unfolding op_word skip_word is_stop_word item_word
@@ -344,14 +382,19 @@ call-closes after = record { no_comma = refl; no_more = refl; after_element = tt
 
 call-back : (t : TyText) (n : Name) (arguments : List (TyText × Opd)) → ResultBack t → IsKept n → EachOf ArgumentBack arguments → OpBack (op.Call t n arguments)
 unfolding op_lexemes ArgumentBack
-call-back t n arguments k h es = started ops.Call _ (codes "call") _ refl call-known (back-step _ _ _ tt _ _ _ (word-fixed (codes "call") refl (omega arith) refl) refl
-    (back-none skipped _ _ _ _ (λ after _. skipped-none _ (k.no_skip _ after)) (back-then _ _ _ t _ _ _ k.back (back-step _ _ _ n _ _ _ (global-fixed n h) (global-again n h) (back-step _ _ _ tt _ _ _ open-fixed refl
-    (back-then_if _ _ _ arguments _ _ _ _ (listed-back sees_type rules.argument parts.typed_operand Always (λ _. tt) arguments es) (λ after _. call-closes after) (back-step _ _ _ tt _ _ _ close-fixed refl
+call-back t n arguments k h es = started ops.Call _ (codes "call") _ refl call-known
+    (back-step _ _ _ tt _ _ _ (word-fixed (codes "call") refl (omega arith) refl) refl
+    (back-none skipped _ _ _ _ (λ after _. skipped-none _ (k.no_skip _ after))
+    (back-then _ _ _ t _ _ _ k.back (back-step _ _ _ n _ _ _ (global-fixed n h) (global-again n h) (back-step _ _ _ tt _ _ _ (sign-fixed 40 refl) refl
+    (back-then_if _ _ _ arguments _ _ _ _ (listed-back sees_type rules.argument parts.typed_operand Always (λ _. tt) arguments es)
+    (λ after _. call-closes after) (back-step _ _ _ tt _ _ _ (sign-fixed 41 refl) refl
     (back-none skipped _ _ _ _ (λ after b. skipped-none after b.no_skip) (back-pure _ _)))))))))
 
 call-gives : Gives rules.call OpBack
-call-gives = gives-bind _ _ Any _ skipped-any (λ _ _. gives-bind _ _ ResultBack _ result-gives (λ t k. gives-bind _ _ IsKept _ (gives-one _ IsKept global-kept) (λ n h. gives-bind _ _ Any _ (any-one _) (λ _ _.
-    gives-bind _ _ (EachOf ArgumentBack) _ (gives-listed sees_type _ ArgumentBack argument-gives) (λ arguments es. gives-bind _ _ Any _ (any-one _) (λ _ _. gives-bind _ _ Any _ skipped-any (λ _ _. gives-pure _ _ (call-back t n arguments k h es))))))))
+call-gives = gives-bind _ _ Any _ skipped-any (λ _ _. gives-bind _ _ ResultBack _ result-gives (λ t k. gives-bind _ _ IsKept _ (gives-one _ IsKept global-kept)
+    (λ n h. gives-bind _ _ Any _ (any-one _) (λ _ _.
+    gives-bind _ _ (EachOf ArgumentBack) _ (gives-listed sees_type _ ArgumentBack argument-gives) (λ arguments es. gives-bind _ _ Any _ (any-one _)
+    (λ _ _. gives-bind _ _ Any _ skipped-any (λ _ _. gives-pure _ _ (call-back t n arguments k h es))))))))
 
 -- ---- br, switch, ret, unreachable
 
@@ -372,13 +415,16 @@ jump-back to k = started ops.Branch _ (codes "br") _ refl br-known (back-step _ 
 
 conditional-back : (c : TyText × Opd) (chosen other : Name) → TypedBack c → IsKept chosen → IsKept other → OpBack (op.Branch c.0 c.1 chosen other)
 unfolding op_lexemes
-conditional-back c chosen other h k g = started ops.Branch _ (codes "br") _ refl br-known (back-step _ _ _ tt _ _ _ (word-fixed (codes "br") refl (omega arith) refl) refl
+conditional-back c chosen other h k g = started ops.Branch _ (codes "br") _ refl br-known
+    (back-step _ _ _ tt _ _ _ (word-fixed (codes "br") refl (omega arith) refl) refl
     (back-no (sees_word (codes "label")) _ _ _ _ _ (λ after _. (head-no_word _ (typed-head c _ h after)).1)
-    (back-then _ _ _ c _ _ _ h.back (back-step _ _ _ tt _ _ _ comma-fixed refl (back-then _ _ _ chosen _ _ _ (target-back chosen _ k) (back-step _ _ _ tt _ _ _ comma-fixed refl (back-last _ _ _ other _ (target-back other _ g))))))))
+    (back-then _ _ _ c _ _ _ h.back (back-step _ _ _ tt _ _ _ (sign-fixed 44 refl) refl (back-then _ _ _ chosen _ _ _ (target-back chosen _ k)
+    (back-step _ _ _ tt _ _ _ (sign-fixed 44 refl) refl (back-last _ _ _ other _ (target-back other _ g))))))))
 
 branch-gives : Gives rules.branch OpBack
 branch-gives = gives-where_it _ _ _ _ (gives-bind _ _ IsKept _ target-gives (λ to k. gives-pure _ _ (jump-back to k)))
-    (gives-bind _ _ TypedBack _ typed-gives (λ c h. gives-bind _ _ Any _ (any-one _) (λ _ _. gives-bind _ _ IsKept _ target-gives (λ chosen k. gives-bind _ _ Any _ (any-one _) (λ _ _. gives-bind _ _ IsKept _ target-gives (λ other g.
+    (gives-bind _ _ TypedBack _ typed-gives (λ c h. gives-bind _ _ Any _ (any-one _)
+    (λ _ _. gives-bind _ _ IsKept _ target-gives (λ chosen k. gives-bind _ _ Any _ (any-one _) (λ _ _. gives-bind _ _ IsKept _ target-gives (λ other g.
     gives-pure _ _ (conditional-back c chosen other h k g)))))))
 
 switch-known : Known ops.Switch (codes "switch")
@@ -390,24 +436,31 @@ CaseBack c = Element sees_type rules.case (parts.case c) c Always
 
 case-gives : Gives rules.case CaseBack
 unfolding CaseBack
-case-gives = gives-bind _ _ TypedBack _ typed-gives (λ x h. gives-bind _ _ Any _ (any-one _) (λ _ _. gives-bind _ _ IsKept _ target-gives (λ to k. gives-pure _ _ (record {
-  back = back-then _ _ _ x _ _ _ h.back (back-step _ _ _ tt _ _ _ comma-fixed refl (back-last _ _ _ to _ (target-back to _ k)));
-  begins_so = λ after. head-sees_type _ (typed-head x _ h after);
-}))))
+case-gives = gives-bind _ _ TypedBack _ typed-gives (λ x h. gives-bind _ _ Any _ (any-one _)
+    (λ _ _. gives-bind _ _ IsKept _ target-gives (λ to k. gives-pure _ _ (record {
+      back = back-then _ _ _ x _ _ _ h.back (back-step _ _ _ tt _ _ _ (sign-fixed 44 refl) refl (back-last _ _ _ to _ (target-back to _ k)));
+      begins_so = λ after. head-sees_type _ (typed-head x _ h after);
+    }))))
 
 switch-ends : (after : Lexemes) → sees_type (sign 93 ∷ after) ≡ false
 unfolding sees_type type_start
 switch-ends after = refl
 
-switch-back : (x : TyText × Opd) (other : Name) (cases : List (TyText × Opd × Name)) → TypedBack x → IsKept other → EachOf CaseBack cases → OpBack (op.Switch x.0 x.1 other cases)
+switch-back : (x : TyText × Opd) (other : Name) (cases : List (TyText × Opd × Name)) → TypedBack x → IsKept other → EachOf CaseBack cases
+    → OpBack (op.Switch x.0 x.1 other cases)
 unfolding op_lexemes CaseBack
-switch-back x other cases h k es = started ops.Switch _ (codes "switch") _ refl switch-known (back-step _ _ _ tt _ _ _ (word-fixed (codes "switch") refl (omega arith) refl) refl
-    (back-then _ _ _ x _ _ _ h.back (back-step _ _ _ tt _ _ _ comma-fixed refl (back-then _ _ _ other _ _ _ (target-back other _ k) (back-step _ _ _ tt _ _ _ square-fixed refl
-    (back-then_if _ _ _ cases _ _ _ _ (many-back sees_type rules.case parts.case Always (λ _ _. tt) cases es) (λ after _. (switch-ends after, tt)) (back-step _ _ _ tt _ _ _ square_end-fixed refl (back-pure _ _))))))))
+switch-back x other cases h k es = started ops.Switch _ (codes "switch") _ refl switch-known
+    (back-step _ _ _ tt _ _ _ (word-fixed (codes "switch") refl (omega arith) refl) refl
+    (back-then _ _ _ x _ _ _ h.back (back-step _ _ _ tt _ _ _ (sign-fixed 44 refl) refl (back-then _ _ _ other _ _ _ (target-back other _ k)
+    (back-step _ _ _ tt _ _ _ (sign-fixed 91 refl) refl
+    (back-then_if _ _ _ cases _ _ _ _ (many-back sees_type rules.case parts.case Always (λ _ _. tt) cases es) (λ after _. (switch-ends after, tt))
+    (back-step _ _ _ tt _ _ _ (sign-fixed 93 refl) refl (back-pure _ _))))))))
 
 switch-gives : Gives rules.switch OpBack
-switch-gives = gives-bind _ _ TypedBack _ typed-gives (λ x h. gives-bind _ _ Any _ (any-one _) (λ _ _. gives-bind _ _ IsKept _ target-gives (λ other k. gives-bind _ _ Any _ (any-one _) (λ _ _.
-    gives-bind _ _ (EachOf CaseBack) _ (gives-many sees_type _ CaseBack case-gives) (λ cases es. gives-bind _ _ Any _ (any-one _) (λ _ _. gives-pure _ _ (switch-back x other cases h k es)))))))
+switch-gives = gives-bind _ _ TypedBack _ typed-gives (λ x h. gives-bind _ _ Any _ (any-one _)
+    (λ _ _. gives-bind _ _ IsKept _ target-gives (λ other k. gives-bind _ _ Any _ (any-one _) (λ _ _.
+    gives-bind _ _ (EachOf CaseBack) _ (gives-many sees_type _ CaseBack case-gives)
+    (λ cases es. gives-bind _ _ Any _ (any-one _) (λ _ _. gives-pure _ _ (switch-back x other cases h k es)))))))
 
 ret-known : Known ops.Ret (codes "ret")
 unfolding op_word skip_word is_stop_word item_word
@@ -416,15 +469,18 @@ ret-known = record { op = refl; no_skip = refl; no_item = refl; no_type = refl }
 nothing-back : OpBack (op.Ret None)
 unfolding op_lexemes
 nothing-back = started ops.Ret _ (codes "ret") _ refl ret-known (back-step _ _ _ tt _ _ _ (word-fixed (codes "ret") refl (omega arith) refl) refl
-    (back-yes (sees_word (codes "void")) _ _ _ _ _ (λ after _. refl) (back-step _ _ _ tt _ _ _ (word-fixed (codes "void") refl (omega arith) refl) refl (back-pure _ _))))
+    (back-yes (sees_word (codes "void")) _ _ _ _ _ (λ after _. refl) (back-step _ _ _ tt _ _ _ (word-fixed (codes "void") refl (omega arith) refl) refl
+    (back-pure _ _))))
 
 value-back : (x : TyText × Opd) → TypedBack x → OpBack (op.Ret (Some x))
 unfolding op_lexemes
 value-back x h = started ops.Ret _ (codes "ret") _ refl ret-known (back-step _ _ _ tt _ _ _ (word-fixed (codes "ret") refl (omega arith) refl) refl
-    (back-no (sees_word (codes "void")) _ _ _ _ _ (λ after _. (head-no_word _ (type-head _ x.0 _ h.type after)).0) (back-last _ _ _ x _ (back-any _ _ _ _ h.back))))
+    (back-no (sees_word (codes "void")) _ _ _ _ _ (λ after _. (head-no_word _ (type-head _ x.0 _ h.type after)).0)
+    (back-last _ _ _ x _ (back-any _ _ _ _ h.back))))
 
 ret-gives : Gives rules.ret OpBack
-ret-gives = gives-where_it _ _ _ _ (gives-bind _ _ Any _ (any-one _) (λ _ _. gives-pure _ _ nothing-back)) (gives-bind _ _ TypedBack _ typed-gives (λ x h. gives-pure _ _ (value-back x h)))
+ret-gives = gives-where_it _ _ _ _ (gives-bind _ _ Any _ (any-one _) (λ _ _. gives-pure _ _ nothing-back))
+    (gives-bind _ _ TypedBack _ typed-gives (λ x h. gives-pure _ _ (value-back x h)))
 
 unreachable-known : Known ops.Unreachable (codes "unreachable")
 unfolding op_word skip_word is_stop_word item_word
@@ -432,7 +488,8 @@ unreachable-known = record { op = refl; no_skip = refl; no_item = refl; no_type 
 
 unreachable-back : OpBack op.Unreachable
 unfolding op_lexemes
-unreachable-back = started ops.Unreachable _ (codes "unreachable") _ refl unreachable-known (back-step _ _ _ tt _ _ _ (word-fixed (codes "unreachable") refl (omega arith) refl) refl (back-pure _ _))
+unreachable-back = started ops.Unreachable _ (codes "unreachable") _ refl unreachable-known
+    (back-step _ _ _ tt _ _ _ (word-fixed (codes "unreachable") refl (omega arith) refl) refl (back-pure _ _))
 
 -- ---- all of them
 

@@ -1,21 +1,23 @@
 -- A name is plain exactly where its plain spelling reads back as it.
-use Rattle.std.proofs.Common.{◌≡◌, ℕ, ◌+◌, ◌-◌, ◌≤◌, ◌↔◌, inl, inr, true, false, not, [], ◌∷◌, ◌++◌, length, take, drop, Option, Some, refl, sym, ap, ◌∙◌, subst, arith}
+use Rattle.std.proofs.Common.{◌≡◌, ℕ, ◌+◌, ◌-◌, ◌≤◌, ◌↔◌, inl, inr, true, false, not, [], ◌∷◌, ◌++◌, length, take, drop, Option, Some, refl, sym, ap, ◌∙◌}
+use Rattle.std.proofs.Common.{subst, arith}
 use Rattle.std.specs.Char.{is_ascii_digit}
 use Rattle.std.specs.Str.Parse.{digits_value}
 use Rattle.std.proofs.lemmas.Bool.{and_parts, and_from, not-true, lt-ltb, false_from_ne_true}
 use Rattle.std.proofs.lemmas.List.{length-append}
-use Rattle.ir_form.specs.Bytes.{Text, NotFirst, is_quote}
-use Rattle.ir_form.specs.Tokens.{IsQuoted, IsName, IsLabelName}
-use Rattle.ir_form.specs.Front.{begins, is_digits, is_small_number}
-use Rattle.ir_form.specs.Names.{Unescapes, end, backslash, hexadecimal, itself, quoted_value}
-use Rattle.ir_form.proofs.Spelled.{is_digits-IsDigits, IsSmallNumber-is_small_number}
-use Rattle.ir_form.proofs.Values.{Unescapes-quoted_value}
+use Rattle.ir_tokens.specs.Bytes.{Text, NotFirst, is_quote, begins}
+use Rattle.ir_tokens.specs.Tokens.{IsQuoted, IsName, IsLabelName, is_digits, is_small_number}
+use Rattle.ir_tokens.specs.Names.{Unescapes, end, backslash, hexadecimal, itself, quoted_value}
+use Rattle.ir_tokens.proofs.Classes.{NotFirst-begins}
+use Rattle.ir_tokens.proofs.Spelled.{is_digits-IsDigits, IsSmallNumber-is_small_number}
+use Rattle.ir_tokens.proofs.Values.{Unescapes-quoted_value}
 use Rattle.ir_tree.specs.declared.name.Name.{Name}
 use Rattle.ir_tree.specs.declared.name.Name.TheVariants as name
 use Rattle.ir_grammar.specs.Words.{name_of}
+use Rattle.ir_grammar.proofs.Names.{quotes-no_digits}
 use Rattle.ir_text.specs.Spelling.{is_run, is_plain, is_plain_label}
 use Rattle.ir_text.specs.Texts.{ReadsAsLocal, ReadsAsGlobal, ReadsAsLabel}
-use Rattle.ir_text.proofs.Values.{run-name, plain-no_digits, quotes-no_digits, without_colon}
+use Rattle.ir_text.proofs.Values.{run-name, plain-no_digits, without_colon}
 use Rattle.ir_text.proofs.FixedTokens.{plain-IsName, label-IsLabelName, local_name-fixed, global_name-fixed, label_name-fixed}
 
 Unescapes-shorter : (text value : Text) → Unescapes text value → length value ≤ length text
@@ -43,20 +45,18 @@ quoted-other s q e =
 
 small-other : (s : Text) → is_small_number s ≡ true → name_of s ≡ Some (name.Text s) → ⊥
 unfolding name_of
-small-other s h e = let value : name_of s ≡ Some (name.Number (digits_value 10 s)) = rw h refl in let same : ◌≡◌ {A = Option Name} (Some (name.Number (digits_value 10 s))) (Some (name.Text s)) = sym value ∙ e in cc
-
-not-first : (s : Text) → NotFirst is_ascii_digit s → begins is_ascii_digit s ≡ false
-not-first [] h = refl
-not-first (b ∷ s) h = h
+small-other s h e = let value : name_of s ≡ Some (name.Number (digits_value 10 s)) = rw h refl in let same : ◌≡◌ {A = Option Name}
+    (Some (name.Number (digits_value 10 s))) (Some (name.Text s)) = sym value ∙ e in cc
 
 name-plain : (s : Text) → IsName s [] → name_of s ≡ Some (name.Text s) → is_plain s ≡ true
 name-plain s (inl (r, inl small)) e = absurd (small-other s (IsSmallNumber-is_small_number s small) e)
-name-plain s (inl (r, inr first)) e = and_from _ _ (and_from _ _ (lt-ltb 0 (length s) r.some) r.run.whole) (ap not (not-first s first))
+name-plain s (inl (r, inr first)) e = and_from _ _ (and_from _ _ (lt-ltb 0 (length s) r.some) r.run.whole) (ap not (NotFirst-begins is_ascii_digit s first))
 name-plain s (inr q) e = absurd (quoted-other s q e)
 
 label-plain : (s : Text) → IsLabelName s (58 ∷ []) → name_of s ≡ Some (name.Text s) → is_plain_label s ≡ true
 label-plain s (inl (r, inl small)) e = absurd (small-other s (IsSmallNumber-is_small_number s small) e)
-label-plain s (inl (r, inr other)) e = and_from _ _ (and_from _ _ (lt-ltb 0 (length s) r.some) r.run.whole) (ap not (false_from_ne_true _ (λ d. other (is_digits-IsDigits s d))))
+label-plain s (inl (r, inr other)) e = and_from _ _ (and_from _ _ (lt-ltb 0 (length s) r.some) r.run.whole)
+    (ap not (false_from_ne_true _ (λ d. other (is_digits-IsDigits s d))))
 label-plain s (inr q) e = absurd (quoted-other s q e)
 
 drop-one : (b : ℕ) (s t : Text) → b ∷ s ≡ b ∷ t → t ≡ s
@@ -79,6 +79,10 @@ plain-global s = (
 
 pub plain-label : (s : Text) → (is_plain_label s ≡ true) ↔ ReadsAsLabel s
 plain-label s = (
-  λ p. (label_name-fixed s [] (label-IsLabelName s p []), ap name_of (without_colon s) ∙ run-name s (and_parts (is_run s) _ p).0 (not-true _ (and_parts (is_run s) _ p).1)),
+  λ p. (
+    label_name-fixed s [] (label-IsLabelName s p []),
+    ap name_of (without_colon s) ∙ run-name s (and_parts (is_run s) _ p).0
+        (not-true _ (and_parts (is_run s) _ p).1),
+  ),
   λ r. let t = r.0.spelled in label-plain s (subst (λ u. IsLabelName u (58 ∷ [])) (drop-last s t.0 t.1) t.2) (ap name_of (sym (without_colon s)) ∙ r.1),
 )

@@ -1,10 +1,10 @@
 -- The canonical text of what was read is read as it.
 use Rattle.std.proofs.Common.{◌≡◌, false, ℕ, ◌<◌, zero, suc, ◌-◌, get_or, drop, List, [], ◌∷◌, length, Contains, Option, Some, None, sym, ◌∙◌, subst, arith}
 use Rattle.std.proofs.lemmas.List.{append-nil}
-use Rattle.ir_form.specs.Bytes.{Text}
-use Rattle.ir_form.specs.Tokens.{Fault, HasFault}
-use Rattle.ir_form.specs.declared.token.Token.{Token}
-use Rattle.ir_form.proofs.Cut.{HasTokens-same, HasTokens-HasFault}
+use Rattle.ir_tokens.specs.Bytes.{Text}
+use Rattle.ir_tokens.specs.Tokens.{Fault, HasFault}
+use Rattle.ir_tokens.specs.declared.token.Token.{Token}
+use Rattle.ir_tokens.proofs.Cut.{HasTokens-same, HasTokens-HasFault}
 use Rattle.ir_tree.specs.declared.name.Name.{Name}
 use Rattle.ir_tree.specs.declared.op.Op.{Op}
 use Rattle.ir_tree.specs.declared.item.Item.{Item}
@@ -62,7 +62,8 @@ op-reads o b =
     record { tokens = c.0; cut = c.1; whole = subst (λ ls. AreInstruction ls o) (append-nil (op_lexemes o) ∙ sym c.2) (plain.again [] nothing-behind) }
 
 -- one that stands in a module
-pub instruction-reads : (text : Text) (items : List Item) (n : Option Name) (o : Op) → AreBytes text → IsTextOf text items → Contains items (tree.Instr n o) → IsInstruction (instruction_text o) o
+pub instruction-reads : (text : Text) (items : List Item) (n : Option Name) (o : Op) → AreBytes text → IsTextOf text items → Contains items (tree.Instr n o)
+    → IsInstruction (instruction_text o) o
 instruction-reads text items n o h t (k, within, e) = op-reads o (item-at items k (tree.Instr n o) (text-kept text items h t).backs within e).instr
 
 -- one that is a text by itself

@@ -1,7 +1,7 @@
 -- Of what is read without effect nothing is written, and nothing is read again.
 use Rattle.std.proofs.Common.{◌≡◌, Bool, false, List, [], ◌++◌, codes, refl, sym, subst}
 use Rattle.am_base.specs.declared.word.Width.TheVariants as width
-use Rattle.ir_form.specs.Bytes.{Text}
+use Rattle.ir_tokens.specs.Bytes.{Text}
 use Rattle.ir_grammar.specs.declared.starts.SkipStart.{SkipStart}
 use Rattle.ir_grammar.specs.declared.starts.SkipStart.TheVariants as skips
 use Rattle.ir_grammar.specs.declared.starts.FlagStart.{FlagStart}
@@ -11,9 +11,11 @@ use Rattle.ir_grammar.specs.declared.starts.TailStart.TheVariants as tails
 use Rattle.ir_grammar.specs.Lexeme.{Lexemes, sees_word}
 use Rattle.ir_grammar.specs.Rule.{Rule, ◌>>=◌, skip_many}
 use Rattle.ir_grammar.specs.Rule as rule
-use Rattle.ir_grammar.specs.Starts.{sees_skip, sees_head_skip, sees_flag, sees_tail, sees_global_tail, skip_start, skip_word, is_stop_word, op_word, flag_start, flag_word}
+use Rattle.ir_grammar.specs.Starts.{sees_skip, sees_head_skip, sees_flag, sees_tail, sees_global_tail, skip_start, skip_word, is_stop_word, op_word, flag_start}
+use Rattle.ir_grammar.specs.Starts.{flag_word}
 use Rattle.ir_grammar.specs.Ops.{arithmetic_flags, cast_flags}
-use Rattle.ir_grammar.specs.Skips.{some_integer, skip_by, skip, skipped, head_skipped, flag_by, flag, flagged, sees_one_of, word_flags, optional, tail_by, tail, tailed, global_tailed}
+use Rattle.ir_grammar.specs.Skips.{some_integer, skip_by, skip, skipped, head_skipped, flag_by, flag, flagged, sees_one_of, word_flags, optional, tail_by, tail}
+use Rattle.ir_grammar.specs.Skips.{tailed, global_tailed}
 use Rattle.ir_text.proofs.Gives.{Gives, Any, gives-refuse, gives-look, any-one, any-bind, any-pure, any-where_it, any-skip_many, any-group}
 use Rattle.ir_text.proofs.Back.{Back, back-none}
 use Rattle.ir_text.proofs.TypesBack.{TypeHead, int, pointer, square, curly, named}
@@ -101,7 +103,8 @@ optional-none : (w : Text) (z : Lexemes) → sees_word w z ≡ false → (option
 optional-none w z e = subst (λ b. (rule.either rule.next (rule.pure tt) b).reads z tt z) (sym e) (refl, refl)
 
 -- a word that isn't written, and then more
-pub back-optional : {B : Type 0} (w : Text) (f : Unit {0} → Rule B) (b : Lexemes) (y : B) (F : Lexemes → Type 0) → ((after : Lexemes) → F after → sees_word w (b ++ after) ≡ false) → Back (f tt) b y F → Back (optional w >>= f) b y F
+pub back-optional : {B : Type 0} (w : Text) (f : Unit {0} → Rule B) (b : Lexemes) (y : B) (F : Lexemes → Type 0)
+    → ((after : Lexemes) → F after → sees_word w (b ++ after) ≡ false) → Back (f tt) b y F → Back (optional w >>= f) b y F
 back-optional w f b y F e k = back-none (optional w) f b y F (λ after h. optional-none w (b ++ after) (e after h)) k
 
 pub tailed-none : (z : Lexemes) → sees_tail z ≡ false → tailed.reads z tt z
@@ -138,7 +141,8 @@ head-no_flag _ (square ts) = refl
 head-no_flag _ (curly ts) = refl
 head-no_flag _ (named s ts) = refl
 
-pub head-no_word : (ts : Lexemes) → TypeHead ts → (sees_word (codes "void") ts ≡ false) × (sees_word (codes "label") ts ≡ false) × (sees_word (codes "volatile") ts ≡ false) × (sees_one_of arithmetic_flags ts ≡ false) × (sees_one_of cast_flags ts ≡ false)
+pub head-no_word : (ts : Lexemes) → TypeHead ts → (sees_word (codes "void") ts ≡ false) × (sees_word (codes "label") ts ≡ false)
+    × (sees_word (codes "volatile") ts ≡ false) × (sees_one_of arithmetic_flags ts ≡ false) × (sees_one_of cast_flags ts ≡ false)
 head-no_word _ (int width.W1 ts) = (refl, refl, refl, refl, refl)
 head-no_word _ (int width.W8 ts) = (refl, refl, refl, refl, refl)
 head-no_word _ (int width.W16 ts) = (refl, refl, refl, refl, refl)

@@ -30,8 +30,10 @@ of_void s t x e h = of_form s t x _ _ e lexemes-Void h
 pub of_named : (s t : Sheet) (x : TyText) (n : Name) → x ≡ ty.Named n → Writes s t (local n ∷ []) → Writes s t (type_lexemes x)
 of_named s t x n e h = of_form s t x _ _ e (lexemes-Named n) h
 
-pub of_array : (s t : Sheet) (x : TyText) (n : ℕ) (of y : TyText) → x ≡ ty.Array n of → y ≡ of → Writes s t (sign 91 ∷ array_length n ∷ word (codes "x") ∷ (type_lexemes y ++ sign 93 ∷ [])) → Writes s t (type_lexemes x)
+pub of_array : (s t : Sheet) (x : TyText) (n : ℕ) (of y : TyText) → x ≡ ty.Array n of → y ≡ of
+    → Writes s t (sign 91 ∷ array_length n ∷ word (codes "x") ∷ (type_lexemes y ++ sign 93 ∷ [])) → Writes s t (type_lexemes x)
 of_array s t x n of y e f h = of_form s t x _ _ (e ∙ ap (ty.Array n) (sym f)) (lexemes-Array n y) h
 
-pub of_struct : (s t : Sheet) (x : TyText) (fields ys : List TyText) → x ≡ ty.Struct fields → ys ≡ fields → Writes s t (sign 123 ∷ (with_commas (map type_lexemes ys) ++ sign 125 ∷ [])) → Writes s t (type_lexemes x)
+pub of_struct : (s t : Sheet) (x : TyText) (fields ys : List TyText) → x ≡ ty.Struct fields → ys ≡ fields
+    → Writes s t (sign 123 ∷ (with_commas (map type_lexemes ys) ++ sign 125 ∷ [])) → Writes s t (type_lexemes x)
 of_struct s t x fields ys e f h = of_form s t x _ _ (e ∙ ap ty.Struct (sym f)) (lexemes-Struct ys) h

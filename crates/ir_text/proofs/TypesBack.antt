@@ -3,8 +3,9 @@ use Rattle.std.proofs.Common.{◌≡◌, ℕ, zero, suc, ◌^◌, ◌≤◌, tru
 use Rattle.std.proofs.lemmas.List.{append_assoc}
 use Rattle.am_base.specs.declared.word.Width.{Width}
 use Rattle.am_base.specs.declared.word.Width.TheVariants as width
-use Rattle.ir_form.specs.Bytes.{Text}
-use Rattle.ir_form.specs.declared.token.TokenKind.TheVariants as kind
+use Rattle.am_base.specs.declared.limits.TheConstants.{MAX_NESTING}
+use Rattle.ir_tokens.specs.Bytes.{Text}
+use Rattle.ir_tokens.specs.declared.token.TokenKind.TheVariants as kind
 use Rattle.ir_tree.specs.declared.name.Name.{Name}
 use Rattle.ir_tree.specs.declared.type_text.TyText.{TyText}
 use Rattle.ir_tree.specs.declared.type_text.TyText.TheVariants as ty
@@ -21,7 +22,7 @@ use Rattle.ir_text.specs.Parts.{with_commas, type_step, type_lexemes}
 use Rattle.ir_text.proofs.Gives.{EachOf, Gives, Any, gives-bind, gives-pure, gives-one, gives-refuse, gives-look, gives-listed, any-one, gives-map}
 use Rattle.ir_text.proofs.Back.{Always, Back, back-pure, back-step, back-then, back-then_if, back-look, back-same}
 use Rattle.ir_text.proofs.Values.{IsKept, local-kept, local-again, length-kept, length-again}
-use Rattle.ir_text.proofs.FixedTokens.{word-fixed, width-fixed, local-fixed, length-fixed, square-fixed, square_end-fixed, curly-fixed, curly_end-fixed}
+use Rattle.ir_text.proofs.FixedTokens.{sign-fixed, word-fixed, width-fixed, local-fixed, length-fixed}
 use Rattle.ir_text.proofs.ListsBack.{Element, Elements, Closes, listed-back}
 
 -- ---- the lexemes, level by level
@@ -77,7 +78,8 @@ record Begun (s : TypeStart) (p : Rule TyText) (t : TyText) : Type 0 where
   pub back : Back p (type_lexemes t) t Always
   pub head : (after : Lexemes) → TypeHead (type_lexemes t ++ after)
 
-begun : (s : TypeStart) (p : Rule TyText) (t : TyText) (a : Lexemes) → type_lexemes t ≡ a → ((after : Lexemes) → type_start (a ++ after) ≡ s) → Back p a t Always → ((after : Lexemes) → TypeHead (a ++ after)) → Begun s p t
+begun : (s : TypeStart) (p : Rule TyText) (t : TyText) (a : Lexemes) → type_lexemes t ≡ a → ((after : Lexemes) → type_start (a ++ after) ≡ s)
+    → Back p a t Always → ((after : Lexemes) → TypeHead (a ++ after)) → Begun s p t
 begun s p t a e f b h = record {
   starts = λ after. ap (λ c. type_start (c ++ after)) e ∙ f after;
   back = back-same p _ a t _ e b;
@@ -96,15 +98,19 @@ ptr-start : (after : Lexemes) → type_start (word (codes "ptr") ∷ after) ≡ 
 unfolding type_start type_word
 ptr-start after = refl
 
-other-start : (after : Lexemes) → (type_start (sign 91 ∷ after) ≡ types.Square) × (type_start (sign 123 ∷ after) ≡ types.Curly) × ((s : Text) → type_start ((kind.Local, s) ∷ after) ≡ types.Named)
+other-start : (after : Lexemes) → (type_start (sign 91 ∷ after) ≡ types.Square) × (type_start (sign 123 ∷ after) ≡ types.Curly)
+    × ((s : Text) → type_start ((kind.Local, s) ∷ after) ≡ types.Named)
 unfolding type_start
 other-start after = (refl, refl, λ s. refl)
 
 simple-gives : (s : TypeStart) → Gives (simple s) (Begun s (simple s))
-simple-gives (types.Int w) = gives-bind _ _ Any _ (any-one _) (λ _ _. gives-pure _ _ (begun _ _ _ _ (lexemes-Int w) (width-start w) (back-step _ _ _ tt _ _ _ (width-fixed w) refl (back-pure _ _)) (int w)))
-simple-gives types.Ptr = gives-bind _ _ Any _ (any-one _) (λ _ _. gives-pure _ _ (begun _ _ _ _ lexemes-Ptr ptr-start (back-step _ _ _ tt _ _ _ (word-fixed (codes "ptr") refl (omega arith) refl) refl (back-pure _ _)) pointer))
+simple-gives (types.Int w) = gives-bind _ _ Any _ (any-one _)
+    (λ _ _. gives-pure _ _ (begun _ _ _ _ (lexemes-Int w) (width-start w) (back-step _ _ _ tt _ _ _ (width-fixed w) refl (back-pure _ _)) (int w)))
+simple-gives types.Ptr = gives-bind _ _ Any _ (any-one _) (λ _ _. gives-pure _ _
+    (begun _ _ _ _ lexemes-Ptr ptr-start (back-step _ _ _ tt _ _ _ (word-fixed (codes "ptr") refl (omega arith) refl) refl (back-pure _ _)) pointer))
 simple-gives types.Named = gives-bind _ _ IsKept _ (gives-one _ IsKept local-kept)
-    (λ n k. gives-pure _ _ (begun _ _ _ _ (lexemes-Named n) (λ after. (other-start after).2 _) (back-step _ _ _ n _ _ _ (local-fixed n k) (local-again n k) (back-pure _ _)) (named _)))
+    (λ n k. gives-pure _ _ (begun _ _ _ _ (lexemes-Named n) (λ after. (other-start after).2 _) (back-step _ _ _ n _ _ _ (local-fixed n k) (local-again n k)
+    (back-pure _ _)) (named _)))
 simple-gives types.Square = gives-refuse _
 simple-gives types.Curly = gives-refuse _
 simple-gives types.Nothing = gives-refuse _
@@ -131,12 +137,14 @@ type-elements p (t ∷ ts) (b, bs) = (type-element p t b, type-elements p ts bs)
 module _ (inner : Rule TyText) (g : Gives inner (TypeBack inner)) where
   array-begun : (n : ℕ) (of : TyText) → n ≤ 2 ^ 32 → TypeBack inner of → Begun types.Square (array inner) (ty.Array n of)
   array-begun n of h b = begun _ _ _ _ (lexemes-Array n of) (λ after. (other-start _).0)
-      (back-step _ _ _ tt _ _ _ square-fixed refl (back-step _ _ _ n _ _ _ (length-fixed n h) (length-again n h) (back-step _ _ _ tt _ _ _ (word-fixed (codes "x") refl (omega arith) refl) refl
-      (back-then _ _ _ of _ _ _ b.back (back-step _ _ _ tt _ _ _ square_end-fixed refl (back-pure _ _))))))
+      (back-step _ _ _ tt _ _ _ (sign-fixed 91 refl) refl (back-step _ _ _ n _ _ _ (length-fixed n h) (length-again n h)
+      (back-step _ _ _ tt _ _ _ (word-fixed (codes "x") refl (omega arith) refl) refl
+      (back-then _ _ _ of _ _ _ b.back (back-step _ _ _ tt _ _ _ (sign-fixed 93 refl) refl (back-pure _ _))))))
       (λ after. square _)
 
   array-gives : Gives (array inner) (Begun types.Square (array inner))
-  array-gives = gives-bind _ _ Any _ (any-one _) (λ _ _. gives-bind _ _ (λ n. n ≤ 2 ^ 32) _ (gives-one _ (λ n. n ≤ 2 ^ 32) (λ l n _ e. length-kept l n e)) (λ n h. gives-bind _ _ Any _ (any-one _) (λ _ _.
+  array-gives = gives-bind _ _ Any _ (any-one _) (λ _ _. gives-bind _ _ (λ n. n ≤ 2 ^ 32) _ (gives-one _ (λ n. n ≤ 2 ^ 32) (λ l n _ e. length-kept l n e))
+      (λ n h. gives-bind _ _ Any _ (any-one _) (λ _ _.
       gives-bind _ _ (TypeBack inner) _ g (λ of b. gives-bind _ _ Any _ (any-one _) (λ _ _. gives-pure _ _ (array-begun n of h b))))))
 
   closes : (after : Lexemes) → Closes sees_type inner type_lexemes Always (λ _. tt) (sign 125 ∷ after)
@@ -145,12 +153,14 @@ module _ (inner : Rule TyText) (g : Gives inner (TypeBack inner)) where
 
   struct-begun : (fields : List TyText) → EachOf (TypeBack inner) fields → Begun types.Curly (struct inner) (ty.Struct fields)
   struct-begun fields bs = begun _ _ _ _ (lexemes-Struct fields) (λ after. (other-start _).1)
-      (back-step _ _ _ tt _ _ _ curly-fixed refl (back-then_if _ _ _ fields _ _ _ _ (listed-back sees_type inner type_lexemes Always (λ _. tt) fields (type-elements inner fields bs)) (λ after _. closes after)
-      (back-step _ _ _ tt _ _ _ curly_end-fixed refl (back-pure _ _))))
+      (back-step _ _ _ tt _ _ _ (sign-fixed 123 refl) refl (back-then_if _ _ _ fields _ _ _ _ (listed-back sees_type inner type_lexemes Always (λ _. tt) fields
+      (type-elements inner fields bs)) (λ after _. closes after)
+      (back-step _ _ _ tt _ _ _ (sign-fixed 125 refl) refl (back-pure _ _))))
       (λ after. curly _)
 
   struct-gives : Gives (struct inner) (Begun types.Curly (struct inner))
-  struct-gives = gives-bind _ _ Any _ (any-one _) (λ _ _. gives-bind _ _ (EachOf (TypeBack inner)) _ (gives-listed sees_type inner _ g) (λ fields bs. gives-bind _ _ Any _ (any-one _) (λ _ _. gives-pure _ _ (struct-begun fields bs))))
+  struct-gives = gives-bind _ _ Any _ (any-one _) (λ _ _. gives-bind _ _ (EachOf (TypeBack inner)) _ (gives-listed sees_type inner _ g)
+      (λ fields bs. gives-bind _ _ Any _ (any-one _) (λ _ _. gives-pure _ _ (struct-begun fields bs))))
 
   nested-gives : (s : TypeStart) → Gives (nested inner s) (Begun s (nested inner s))
   nested-gives types.Square = array-gives
@@ -161,7 +171,8 @@ module _ (inner : Rule TyText) (g : Gives inner (TypeBack inner)) where
   nested-gives types.Nothing = simple-gives types.Nothing
 
 by_start : (k : TypeStart → Rule TyText) → ((s : TypeStart) → Gives (k s) (Begun s (k s))) → Gives (look type_start k) (TypeBack (look type_start k))
-by_start k g = gives-look type_start k _ (λ s. gives-map (k s) (Begun s (k s)) _ (λ t b. record { back = back-look type_start k s _ t _ (λ after _. b.starts after) b.back; head = b.head }) (g s))
+by_start k g = gives-look type_start k _ (λ s. gives-map (k s) (Begun s (k s)) _
+    (λ t b. record { back = back-look type_start k s _ t _ (λ after _. b.starts after) b.back; head = b.head }) (g s))
 
 pub type_in-gives : (depth : ℕ) → Gives (type_in depth) (TypeBack (type_in depth))
 unfolding type_in
@@ -169,4 +180,4 @@ type_in-gives zero = by_start simple simple-gives
 type_in-gives (suc depth) = by_start (nested (type_in depth)) (nested-gives (type_in depth) (type_in-gives depth))
 
 pub type-gives : Gives type_text (TypeBack type_text)
-type-gives = type_in-gives 64
+type-gives = type_in-gives MAX_NESTING

@@ -1,36 +1,34 @@
 -- Names, numbers and texts stand for the same when they are read again.
-use Rattle.std.proofs.Common.{◌≡◌, ℕ, zero, suc, ◌+◌, ◌-◌, ◌*◌, ◌/◌, ◌%◌, ◌^◌, ◌<◌, ◌≤◌, inl, inr, Bool, true, false, not, cond, ◌&&◌, ◌||◌, nat_lt, nat_le, [], ◌∷◌, ◌++◌, length, take, drop, decimal, ℤ, pos, negsuc, neg_ℤ, Option, Some, None, refl, sym, ap, ◌∙◌, subst, arith, eqb-true, le-ltb, ltb-false}
+use Rattle.std.proofs.Common.{◌≡◌, ℕ, zero, suc, ◌+◌, ◌-◌, ◌*◌, ◌/◌, ◌%◌, ◌^◌, ◌<◌, ◌≤◌, inl, inr, Bool, true, false, not, cond, ◌&&◌, ◌||◌, nat_lt, nat_le, []}
+use Rattle.std.proofs.Common.{◌∷◌, ◌++◌, length, take, drop, decimal, ℤ, pos, negsuc, neg_ℤ, Option, Some, None, refl, sym, ap, ◌∙◌, subst, arith, eqb-true}
+use Rattle.std.proofs.Common.{le-ltb, ltb-false}
 use Rattle.std.specs.Char.{is_ascii_digit, is_ascii_hexdigit, digit_value}
 use Rattle.std.specs.Fmt.{digit_glyph}
 use Rattle.std.specs.List.{list_all}
 use Rattle.std.specs.Str.Parse.{AllDigits, digits_value}
-use Rattle.std.proofs.lemmas.Bool.{cond_both, and_parts, and_from, or_parts, or_cases, not-true, false_from_ne_true, lt-ltb, ltb-true, le-leb, leb-true, or_left, or_right}
+use Rattle.std.proofs.lemmas.Bool.{cond_both, and_parts, and_from, or_parts, or_cases, not-true, false_from_ne_true, lt-ltb, ltb-true, le-leb, leb-true}
+use Rattle.std.proofs.lemmas.Bool.{or_left, or_right}
 use Rattle.std.proofs.lemmas.List.{length-append}
+use Rattle.std.proofs.lemmas.Option.{same_Some}
 use Rattle.std.proofs.Math.Seq.{take-append_seam}
 use Rattle.std.proofs.lemmas.Fmt.{decimal_is_IsNumeral_wide}
 use Rattle.std.proofs.lemmas.Str.Parse.{digit_from_value}
-use Rattle.ir_form.specs.Bytes.{Text, Each, is_quote, is_backslash, is_run_byte}
-use Rattle.ir_form.specs.Tokens.{IsDigits, IsQuoted}
-use Rattle.ir_form.specs.Front.{is_digits, is_small_number, begins}
-use Rattle.ir_form.specs.Names.{is_double, is_hexadecimal, Unescapes, end, backslash, hexadecimal, itself, unescaped, quoted_value}
-use Rattle.ir_form.specs.declared.token.TokenKind.TheVariants as kind
-use Rattle.ir_form.proofs.Spelled.{IsDigits-is_digits}
-use Rattle.ir_form.proofs.Classes.{eqb-other}
-use Rattle.ir_form.proofs.Values.{Unescapes-unescaped, Unescapes-quoted_value}
+use Rattle.ir_tokens.specs.Bytes.{Text, Each, is_quote, is_backslash, is_run_byte, begins}
+use Rattle.ir_tokens.specs.Tokens.{IsDigits, IsQuoted, is_digits, is_small_number}
+use Rattle.ir_tokens.specs.Names.{is_double, is_hexadecimal, Unescapes, end, backslash, hexadecimal, itself, unescaped, quoted_value}
+use Rattle.ir_tokens.specs.declared.token.TokenKind.TheVariants as kind
+use Rattle.ir_tokens.proofs.Spelled.{is_digits-IsDigits, IsDigits-is_digits}
+use Rattle.ir_tokens.proofs.Classes.{begins-NotFirst}
+use Rattle.ir_tokens.proofs.Values.{Unescapes-unescaped, Unescapes-quoted_value}
 use Rattle.ir_tree.specs.declared.name.Name.{Name}
 use Rattle.ir_tree.specs.declared.name.Name.TheVariants as name
 use Rattle.ir_grammar.specs.Lexeme.{Lexeme}
-use Rattle.ir_grammar.specs.Words.{name_of, local_of, global_of, label_of, is_minus, digits_of, magnitude, whole_value, is_from, integer_of, length_of, cstring_of}
+use Rattle.ir_grammar.specs.Words.{name_of, local_of, global_of, label_of, is_minus, digits_of, magnitude, whole_value, is_from, integer_of, length_of}
+use Rattle.ir_grammar.specs.Words.{cstring_of}
+use Rattle.ir_grammar.proofs.Names.{run-no_quote, quotes-no_digits, first-no_digits}
 use Rattle.ir_text.specs.Spelling as canon
 use Rattle.ir_text.specs.Spelling.{is_shown, escaped_byte, escaped, in_quotes, is_run, is_plain, is_plain_label, spelled_name}
 use Rattle.ir_text.proofs.Gives.{Bytes}
-
-abbrev pub some_or : {X : Type 0} → X → Option X → X
-some_or d None = d
-some_or d (Some x) = x
-
-pub some_is : {X : Type 0} (a b : X) → ◌≡◌ {A = Option X} (Some a) (Some b) → a ≡ b
-some_is a b e = ap (some_or a) e
 
 -- ---- decimals
 
@@ -49,7 +47,8 @@ decimal-is_digits n h = IsDigits-is_digits (decimal n) (decimal-IsDigits n h)
 
 digits-no_minus : (s : Text) → IsDigits s → begins is_minus s ≡ false
 digits-no_minus [] d = refl
-digits-no_minus (b ∷ s) d = false_from_ne_true _ (λ e. let one = (and_parts (is_ascii_digit b) (list_all is_ascii_digit s) d.whole).0 in let low = leb-true _ _ (and_parts (nat_le 48 b) (nat_le b 57) one).0 in let same = eqb-true b 45 e in absurd (omega arith))
+digits-no_minus (b ∷ s) d = false_from_ne_true _ (λ e. let one = (and_parts (is_ascii_digit b) (list_all is_ascii_digit s) d.whole).0 in let low =
+    leb-true _ _ (and_parts (nat_le 48 b) (nat_le b 57) one).0 in let same = eqb-true b 45 e in absurd (omega arith))
 
 -- ---- in quotes
 
@@ -82,7 +81,8 @@ shown-other : (b : ℕ) → is_shown b ≡ true → (is_quote b ≡ false) × (i
 shown-other b e = or_parts _ _ (not-true _ (and_parts (nat_le 32 b && nat_le b 126) (not (is_quote b || is_backslash b)) e).1)
 
 -- two digits of a byte
-two_digits : (b : ℕ) (text value : Text) → b < 256 → Unescapes text value → Unescapes (92 ∷ (digit_glyph true (b / 16) ∷ (digit_glyph true (b % 16) ∷ text))) (b ∷ value)
+two_digits : (b : ℕ) (text value : Text) → b < 256 → Unescapes text value → Unescapes (92 ∷ (digit_glyph true (b / 16) ∷ (digit_glyph true (b % 16) ∷ text)))
+    (b ∷ value)
 two_digits b text value small u =
     let high = glyph (b / 16) (omega arith) in
     let low = glyph (b % 16) (omega arith) in
@@ -100,7 +100,8 @@ escaped-Unescapes (b ∷ s) h =
 
 glyph-no_quote : (d : ℕ) → is_quote (digit_glyph true d) ≡ false
 glyph-no_quote d = cond_both (nat_lt d 10) (48 + d) (55 + d) (λ g. is_quote g ≡ false)
-    (λ _. false_from_ne_true _ (λ e. let same = eqb-true (48 + d) 34 e in absurd (omega arith))) (λ _. false_from_ne_true _ (λ e. let same = eqb-true (55 + d) 34 e in absurd (omega arith)))
+    (λ _. false_from_ne_true _ (λ e. let same = eqb-true (48 + d) 34 e in absurd (omega arith)))
+    (λ _. false_from_ne_true _ (λ e. let same = eqb-true (55 + d) 34 e in absurd (omega arith)))
 
 escaped-no_quote : (s : Text) → Each (λ b. not (is_quote b)) (escaped s)
 escaped-no_quote [] = refl
@@ -122,12 +123,21 @@ quoted-value s h = sym ((Unescapes-quoted_value (in_quotes s) s (quoted-IsQuoted
 hex-small : (h : ℕ) → is_ascii_hexdigit h ≡ true → digit_value h < 16
 hex-small h e = elim (or_cases ((nat_le 48 h && nat_le h 57) || (nat_le 65 h && nat_le h 70)) (nat_le 97 h && nat_le h 102) e) [
   | inl f ↦ elim (or_cases (nat_le 48 h && nat_le h 57) (nat_le 65 h && nat_le h 70) f) [
-    | inl g ↦ let r = and_parts (nat_le 48 h) (nat_le h 57) g in let a = leb-true _ _ r.0 in let b = leb-true _ _ r.1 in rw (le-ltb h 48 a, lt-ltb h 58 (omega arith)) (omega arith)
+    | inl g ↦ let r = and_parts (nat_le 48 h) (nat_le h 57) g in let a = leb-true _ _ r.0 in let b = leb-true _ _ r.1 in
+        rw (le-ltb h 48 a, lt-ltb h 58 (omega arith)) (omega arith)
     | inr g ↦ let r = and_parts (nat_le 65 h) (nat_le h 70) g in let a = leb-true _ _ r.0 in let b = leb-true _ _ r.1 in
         rw (le-ltb h 48 (omega arith), le-ltb h 58 (omega arith), le-ltb h 65 a, lt-ltb h 91 (omega arith)) (omega arith)
   ]
   | inr g ↦ let r = and_parts (nat_le 97 h) (nat_le h 102) g in let a = leb-true _ _ r.0 in let b = leb-true _ _ r.1 in
-      rw (le-ltb h 48 (omega arith), le-ltb h 58 (omega arith), le-ltb h 65 (omega arith), le-ltb h 91 (omega arith), le-ltb h 97 a, lt-ltb h 123 (omega arith)) (omega arith)
+      rw (
+        le-ltb h 48 (omega arith),
+        le-ltb h 58 (omega arith),
+        le-ltb h 65 (omega arith),
+        le-ltb h 91 (omega arith),
+        le-ltb h 97 a,
+        lt-ltb h 123
+            (omega arith),
+      ) (omega arith)
 ]
 
 Unescapes-bytes : (text value : Text) → Unescapes text value → Bytes text → Bytes value
@@ -149,7 +159,8 @@ bytes-take (suc n) [] h = refl
 bytes-take (suc n) (b ∷ s) h = let both = and_parts _ _ h in and_from _ _ both.0 (bytes-take n s both.1)
 
 value-bytes : (s : Text) → Bytes s → Bytes (quoted_value s)
-value-bytes s h = let body = take (length s - 2) (drop 1 s) in Unescapes-bytes body (unescaped body) ((Unescapes-unescaped body (unescaped body)).1 refl) (bytes-take (length s - 2) (drop 1 s) (bytes-drop 1 s h))
+value-bytes s h = let body = take (length s - 2) (drop 1 s) in Unescapes-bytes body (unescaped body) ((Unescapes-unescaped body (unescaped body)).1 refl)
+    (bytes-take (length s - 2) (drop 1 s) (bytes-drop 1 s h))
 
 -- ---- names
 
@@ -160,10 +171,10 @@ IsKept (name.Number n) = n < 4294967296
 
 name_by : (a b c : Bool) (v : ℕ) (q s : Text) (n : Name) → (a ≡ true → v < 4294967296) → Bytes q → Bytes s
     → cond a (Some (name.Number v)) (cond b None (cond c (Some (name.Text q)) (Some (name.Text s)))) ≡ Some n → IsKept n
-name_by true b c v q s n small hq hs e = subst IsKept (some_is (name.Number v) n e) (small refl)
+name_by true b c v q s n small hq hs e = subst IsKept (same_Some (name.Number v) n e) (small refl)
 name_by false true c v q s n small hq hs e = cc
-name_by false false true v q s n small hq hs e = subst IsKept (some_is (name.Text q) n e) hq
-name_by false false false v q s n small hq hs e = subst IsKept (some_is (name.Text s) n e) hs
+name_by false false true v q s n small hq hs e = subst IsKept (same_Some (name.Text q) n e) hq
+name_by false false false v q s n small hq hs e = subst IsKept (same_Some (name.Text s) n e) hs
 
 small-value : (s : Text) → is_small_number s ≡ true → digits_value 10 s < 4294967296
 unfolding is_small_number
@@ -209,26 +220,16 @@ label-kept (kind.Hash, s) n h e = cc
 label-kept (kind.Meta, s) n h e = cc
 label-kept (kind.Sign b, s) n h e = cc
 
-run-no_quote : (s : Text) → is_run s ≡ true → begins is_quote s ≡ false
-run-no_quote [] e = refl
-run-no_quote (b ∷ s) e = eqb-other is_run_byte b 34 (and_parts (is_run_byte b) (list_all is_run_byte s) (and_parts _ _ e).1).0 refl
-
 -- a run that isn't digits is its own name
 pub run-name : (s : Text) → is_run s ≡ true → is_digits s ≡ false → name_of s ≡ Some (name.Text s)
 unfolding name_of is_small_number
-run-name s r d = rw (d, run-no_quote s r) refl
+run-name s r d = let quote = run-no_quote s (and_parts (nat_lt 0 (length s)) (list_all is_run_byte s) r).1 in rw (d, quote) refl
 
 pub plain-no_digits : (s : Text) → is_plain s ≡ true → is_digits s ≡ false
-plain-no_digits s e = false_from_ne_true _ (λ d. let both = and_parts (is_run s) _ e in first s (not-true _ both.1) d) where
-  first : (t : Text) → begins is_ascii_digit t ≡ false → is_digits t ≡ true → ⊥
-  first [] f d = cc
-  first (b ∷ t) f d =
-      let all = (and_parts (nat_lt 0 (length (b ∷ t))) (list_all is_ascii_digit (b ∷ t)) d).1 in
-      let yes : is_ascii_digit b ≡ true = (and_parts (is_ascii_digit b) (list_all is_ascii_digit t) all).0 in
-      let no : false ≡ true = sym f ∙ yes in cc
-
-pub quotes-no_digits : (t : Text) → is_digits (34 ∷ t) ≡ false
-quotes-no_digits t = false_from_ne_true _ (λ d. let all : false ≡ true = (and_parts _ _ d).1 in cc)
+plain-no_digits s e =
+    let both = and_parts (is_run s) _ e in
+    let some = ltb-true 0 (length s) (and_parts _ _ both.0).0 in
+    false_from_ne_true _ (λ d. first-no_digits s some (begins-NotFirst is_ascii_digit s (not-true _ both.1)) (is_digits-IsDigits s d))
 
 quotes-name : (s : Text) → Bytes s → name_of (in_quotes s) ≡ Some (name.Text s)
 unfolding name_of is_small_number
@@ -239,9 +240,11 @@ unfolding name_of is_small_number
 number-name n h = let value = decimal-value n (omega arith) in rw (decimal-is_digits n (omega arith), value, lt-ltb n 4294967296 h) refl
 
 -- a name is read again, where plain spellings are
-spelled-name : (plain : Text → Bool) → ((s : Text) → plain s ≡ true → (is_run s ≡ true) × (is_digits s ≡ false)) → (n : Name) → IsKept n → name_of (spelled_name plain n) ≡ Some n
+spelled-name : (plain : Text → Bool) → ((s : Text) → plain s ≡ true → (is_run s ≡ true) × (is_digits s ≡ false)) → (n : Name) → IsKept n
+    → name_of (spelled_name plain n) ≡ Some n
 spelled-name plain p (name.Number n) k = number-name n k
-spelled-name plain p (name.Text s) k = cond_both (plain s) s (in_quotes s) (λ t. name_of t ≡ Some (name.Text s)) (λ e. run-name s (p s e).0 (p s e).1) (λ _. quotes-name s k)
+spelled-name plain p (name.Text s) k = cond_both (plain s) s (in_quotes s) (λ t. name_of t ≡ Some (name.Text s)) (λ e. run-name s (p s e).0 (p s e).1)
+    (λ _. quotes-name s k)
 
 plain-run : (s : Text) → is_plain s ≡ true → (is_run s ≡ true) × (is_digits s ≡ false)
 plain-run s e = ((and_parts (is_run s) _ e).0, plain-no_digits s e)
@@ -256,7 +259,8 @@ pub global-again : (n : Name) → IsKept n → global_of (canon.global n) ≡ So
 global-again n k = spelled-name is_plain plain-run n k
 
 pub without_colon : (s : Text) → take (length (s ++ (58 ∷ [])) - 1) (s ++ (58 ∷ [])) ≡ s
-without_colon s = let len : length (s ++ (58 ∷ [])) - 1 ≡ length s = simp length-append (omega arith) in ap (λ n. take n (s ++ (58 ∷ []))) len ∙ take-append_seam s (58 ∷ [])
+without_colon s = let len : length (s ++ (58 ∷ [])) - 1 ≡ length s = simp length-append (omega arith) in ap (λ n. take n (s ++ (58 ∷ []))) len
+    ∙ take-append_seam s (58 ∷ [])
 
 pub label-again : (n : Name) → IsKept n → label_of (canon.label n) ≡ Some n
 label-again n k = ap name_of (without_colon (spelled_name is_plain_label n)) ∙ spelled-name is_plain_label plain_label-run n k
@@ -278,17 +282,20 @@ integer-again (negsuc n) h =
     let value = decimal-value (suc n) wide in
     rw (decimal-is_digits (suc n) wide, value, le-leb (suc n) (2 ^ 127) (omega arith)) refl
 
-wide_by : (a b : Bool) (s : Text) (z : ℤ) → begins is_minus s ≡ b → is_from (2 ^ 127) (2 ^ 127 - 1) s ≡ a → cond a (Some (whole_value s)) None ≡ Some z → IsWide z
+wide_by : (a b : Bool) (s : Text) (z : ℤ) → begins is_minus s ≡ b → is_from (2 ^ 127) (2 ^ 127 - 1) s ≡ a → cond a (Some (whole_value s)) None ≡ Some z
+    → IsWide z
 wide_by false b s z m f e = cc
 wide_by true true s z m f e =
-    let small = leb-true (magnitude s) (2 ^ 127) (ap (λ v. nat_le (magnitude s) (cond v (2 ^ 127) (2 ^ 127 - 1))) (sym m) ∙ (and_parts (is_digits (digits_of s)) _ f).1) in
-    subst IsWide (ap (λ v. cond v (neg_ℤ (pos (magnitude s))) (pos (magnitude s))) (sym m) ∙ some_is (whole_value s) z e) (negated (magnitude s) small) where
+    let small = leb-true (magnitude s) (2 ^ 127) (ap (λ v. nat_le (magnitude s) (cond v (2 ^ 127) (2 ^ 127 - 1))) (sym m)
+    ∙ (and_parts (is_digits (digits_of s)) _ f).1) in
+    subst IsWide (ap (λ v. cond v (neg_ℤ (pos (magnitude s))) (pos (magnitude s))) (sym m) ∙ same_Some (whole_value s) z e) (negated (magnitude s) small) where
       negated : (n : ℕ) → n ≤ 2 ^ 127 → IsWide (neg_ℤ (pos n))
       negated zero h = omega arith
       negated (suc n) h = omega arith
 wide_by true false s z m f e =
-    let small = leb-true (magnitude s) (2 ^ 127 - 1) (ap (λ v. nat_le (magnitude s) (cond v (2 ^ 127) (2 ^ 127 - 1))) (sym m) ∙ (and_parts (is_digits (digits_of s)) _ f).1) in
-    subst IsWide (ap (λ v. cond v (neg_ℤ (pos (magnitude s))) (pos (magnitude s))) (sym m) ∙ some_is (whole_value s) z e) (omega arith)
+    let small = leb-true (magnitude s) (2 ^ 127 - 1) (ap (λ v. nat_le (magnitude s) (cond v (2 ^ 127) (2 ^ 127 - 1))) (sym m)
+    ∙ (and_parts (is_digits (digits_of s)) _ f).1) in
+    subst IsWide (ap (λ v. cond v (neg_ℤ (pos (magnitude s))) (pos (magnitude s))) (sym m) ∙ same_Some (whole_value s) z e) (omega arith)
 
 pub integer-kept : (l : Lexeme) (z : ℤ) → integer_of l ≡ Some z → IsWide z
 integer-kept (kind.Number, s) z e = wide_by (is_from (2 ^ 127) (2 ^ 127 - 1) s) (begins is_minus s) s z refl refl e
@@ -305,8 +312,9 @@ integer-kept (kind.Sign b, s) z e = cc
 length_by : (a b : Bool) (s : Text) (n : ℕ) → begins is_minus s ≡ b → is_from 0 (2 ^ 32) s ≡ a → cond a (Some (magnitude s)) None ≡ Some n → n ≤ 2 ^ 32
 length_by false b s n m f e = cc
 length_by true b s n m f e =
-    let same = some_is (magnitude s) n e in
-    let small = leb-true (magnitude s) (cond b 0 (2 ^ 32)) (ap (λ v. nat_le (magnitude s) (cond v 0 (2 ^ 32))) (sym m) ∙ (and_parts (is_digits (digits_of s)) _ f).1) in
+    let same = same_Some (magnitude s) n e in
+    let small = leb-true (magnitude s) (cond b 0 (2 ^ 32)) (ap (λ v. nat_le (magnitude s) (cond v 0 (2 ^ 32))) (sym m)
+    ∙ (and_parts (is_digits (digits_of s)) _ f).1) in
     let most : cond b 0 (2 ^ 32) ≤ 2 ^ 32 = cond_both b 0 (2 ^ 32) (λ v. v ≤ 2 ^ 32) (λ _. omega arith) (λ _. omega arith) in
     omega arith
 
@@ -323,7 +331,7 @@ length-kept (kind.Meta, s) n e = cc
 length-kept (kind.Sign b, s) n e = cc
 
 pub cstring-kept : (l : Lexeme) (v : Text) → Bytes l.1 → cstring_of l ≡ Some v → Bytes v
-cstring-kept (kind.CString, s) v h e = subst Bytes (some_is (quoted_value (drop 1 s)) v e) (value-bytes (drop 1 s) (bytes-drop 1 s h))
+cstring-kept (kind.CString, s) v h e = subst Bytes (same_Some (quoted_value (drop 1 s)) v e) (value-bytes (drop 1 s) (bytes-drop 1 s h))
 cstring-kept (kind.Local, s) v h e = cc
 cstring-kept (kind.Global, s) v h e = cc
 cstring-kept (kind.Label, s) v h e = cc

@@ -1,6 +1,6 @@
 -- The one list of lexemes of each part of a tree and of each item.
 use Rattle.std.specs.Prelude.{ℕ, Bool, true, false, ◌==◌, if◌then◌else◌, List, [], ◌∷◌, ◌++◌, map, codes, Option, Some, None, ℤ}
-use Rattle.ir_form.specs.Bytes.{Text}
+use Rattle.ir_tokens.specs.Bytes.{Text}
 use Rattle.ir_tree.specs.declared.name.Name.{Name}
 use Rattle.ir_tree.specs.declared.type_text.TyText.{TyText}
 use Rattle.ir_tree.specs.declared.type_text.TyText.TheOpen.{TyText-F}
@@ -19,12 +19,12 @@ use Rattle.ir_text.specs.Spelling.{local, global, label, number, array_length, c
 
 -- ---- lists
 
--- one list behind the other
+-- one list after the other
 abbrev pub joined : List Lexemes → Lexemes
 joined [] = []
 joined (part ∷ parts) = part ++ joined parts
 
--- each one behind a comma
+-- each one after a comma
 abbrev pub behind_commas : List Lexemes → Lexemes
 behind_commas parts = joined (map (λ part. comma ∷ part) parts)
 
@@ -70,10 +70,11 @@ operand_lexemes opd.Null = word (codes "null") ∷ []
 operand_lexemes opd.Undef = word (codes "undef") ∷ []
 operand_lexemes opd.Poison = word (codes "poison") ∷ []
 operand_lexemes opd.Zero = word (codes "zeroinitializer") ∷ []
-operand_lexemes (opd.Get of base n indices) =
-    word (codes "getelementptr") ∷ sign 40 ∷ (type_lexemes of ++ comma ∷ (type_lexemes base ++ global n ∷ (behind_commas (map constant_index indices) ++ sign 41 ∷ [])))
+operand_lexemes (opd.Get (of, base, n, indices)) =
+    word (codes "getelementptr") ∷ sign 40 ∷ (type_lexemes of ++ comma ∷
+    (type_lexemes base ++ global n ∷ (behind_commas (map constant_index indices) ++ sign 41 ∷ [])))
 
--- an operand behind its type
+-- an operand after its type
 abbrev pub typed : TyText → Opd → Lexemes
 typed t x = type_lexemes t ++ operand_lexemes x
 
@@ -94,7 +95,7 @@ init_step (Init-F.Struct fields) = sign 123 ∷ (with_commas (map element fields
 unfoldable pub init_lexemes : Init → Lexemes
 init_lexemes = fold-Init Lexemes init_step
 
--- an element behind its type
+-- an element after its type
 abbrev pub init_element : TyText × Init → Lexemes
 init_element e = type_lexemes e.0 ++ init_lexemes e.1
 

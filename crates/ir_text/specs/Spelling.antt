@@ -11,16 +11,16 @@ use Rattle.am_base.specs.declared.word.Cast.{Cast}
 use Rattle.am_base.specs.declared.word.Cast.TheVariants as cast
 use Rattle.am_base.specs.declared.word.Pred.{Pred}
 use Rattle.am_base.specs.declared.word.Pred.TheVariants as pred
-use Rattle.ir_form.specs.Bytes.{Text, is_quote, is_backslash, is_run_byte}
-use Rattle.ir_form.specs.Front.{is_digits, begins}
-use Rattle.ir_form.specs.declared.token.TokenKind.TheVariants as kind
+use Rattle.ir_tokens.specs.Bytes.{Text, is_quote, is_backslash, is_run_byte, begins}
+use Rattle.ir_tokens.specs.Tokens.{is_digits}
+use Rattle.ir_tokens.specs.declared.token.TokenKind.TheVariants as kind
 use Rattle.ir_tree.specs.declared.name.Name.{Name}
 use Rattle.ir_tree.specs.declared.name.Name.TheVariants as name
 use Rattle.ir_grammar.specs.Lexeme.{Lexeme}
 
 -- ---- in quotes
 
--- bytes from 32 to 126 other than `"` and `\` stand for themselves
+-- bytes from 32 to 126 other than `"` and `\` are written as they are
 abbrev pub is_shown : ℕ → Bool
 is_shown b = nat_le 32 b && nat_le b 126 && not (is_quote b || is_backslash b)
 
@@ -39,7 +39,7 @@ in_quotes s = 34 ∷ (escaped s ++ (34 ∷ []))
 abbrev pub is_run : Text → Bool
 is_run s = nat_lt 0 (length s) && list_all is_run_byte s
 
--- the bytes, spelled plain behind `%` or `@`, read back as this name: a run that doesn't begin with a digit
+-- the bytes, spelled plain after `%` or `@`, read back as this name: a run that doesn't begin with a digit
 abbrev pub is_plain : Text → Bool
 is_plain s = is_run s && not (begins is_ascii_digit s)
 

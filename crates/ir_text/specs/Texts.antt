@@ -1,9 +1,9 @@
--- Which text is that of a module, and which names stand plainly.
+-- Which text is that of a module, and which names are plain.
 use Rattle.std.specs.Prelude.{◌≡◌, ℕ, nat_lt, List, [], ◌∷◌, ◌++◌, Some}
-use Rattle.ir_form.specs.Bytes.{Text, Each}
-use Rattle.ir_form.specs.Tokens.{IsToken, HasTokens}
-use Rattle.ir_form.specs.declared.token.Token.{Token}
-use Rattle.ir_form.specs.declared.token.TokenKind.TheVariants as kind
+use Rattle.ir_tokens.specs.Bytes.{Text, Each}
+use Rattle.ir_tokens.specs.Tokens.{IsToken, HasTokens}
+use Rattle.ir_tokens.specs.declared.token.Token.{Token}
+use Rattle.ir_tokens.specs.declared.token.TokenKind.TheVariants as kind
 use Rattle.ir_tree.specs.declared.name.Name.TheVariants as name
 use Rattle.ir_tree.specs.declared.item.Item.{Item}
 use Rattle.ir_tree.specs.declared.item.Item.TheVariants as tree

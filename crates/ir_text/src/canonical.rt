@@ -1,3 +1,4 @@
+//! The canonical text of a module and of an instruction.
 ghost use Rattle.ir_text.specs.Lines.{canon, indent, instruction_text, line};
 ghost use Rattle.ir_text.specs.Texts.{IsInstr};
 ghost use Rattle.ir_tree.specs.declared.item.Item.TheVariants as tree;
@@ -40,12 +41,13 @@ fn put_line(sheet: &mut Sheet, item: &Item) -> Result<(), OutOfMemory>
     Ok(())
 }
 
-/// The canonical text of a module. `canon_reads_back` says that it reads as the same module.
+/// Returns the canonical text of a module. The law `canon_reads_back` says that it is read as the
+/// same module.
 ///
-/// Each item stands on one line that ends with byte 10, and an instruction has two blanks before
-/// it. Words that are skipped, flags, alignments, sections and metadata aren't in a module, and so
-/// not in its text. It is refused only for want of memory, and takes time in the size of the module.
-/// The form is this project's own, within the language of the LLVM Language Reference.
+/// Each item is one line that ends with byte 10, and an instruction is indented by two blanks.
+/// Skipped words, flags, alignments, sections and metadata aren't in a module, and so not in its
+/// text. It is refused only for want of memory. O(n) in the size of the module. The form is this
+/// project's own, within the language of the LLVM Language Reference.
 pub fn print(alloc: Global, m: &Module) -> Result<Vec<u8>, OutOfMemory>
     ensures { IfOk result (λ text. text.items ≡ canon m.now.items) }
 {
@@ -66,15 +68,16 @@ fn print_op(alloc: Global, op: &Op) -> Result<Vec<u8>, OutOfMemory>
     Ok(text.into_vec())
 }
 
-/// The canonical text of an instruction without its result and the `=` behind it, as it stands in a
-/// list of mutants. It is refused only for want of memory.
+/// Returns the canonical text of an instruction without its result and the ` = ` after it, as a
+/// list of mutants has it. The law `instruction_lines` says where the text of a module has it. It
+/// is refused only for want of memory.
 pub fn print_instruction(alloc: Global, item: &Item) -> Result<Vec<u8>, OutOfMemory>
     requires { IsInstr item.now }
     ensures { (n : Option Name) (op : Op)
         → item.now ≡ tree.Instr n op → IfOk result (λ text. text.items ≡ instruction_text op) }
 {
     match item {
-        Item::Instr(_, op) => print_op(alloc, op),
+        Item::Instr(_, op) => print_op(alloc, op.get()),
         Item::TypeDef(_, _)
         | Item::Global(_, _, _, _)
         | Item::Declare(_, _, _)

@@ -1,3 +1,4 @@
+//! The text of initial values.
 ghost use Rattle.ir_text.specs.Parts as parts;
 ghost use Rattle.ir_text.specs.Printing.{with_tokens};
 ghost use Rattle.std.specs.Prelude.{◌≡◌, map, OnOk};
@@ -30,11 +31,13 @@ pub fn put_init(sheet: &mut Sheet, init: &Init) -> Result<(), OutOfMemory>
     Ok(())
 }
 
-/// Writes elements with commas between, each behind its type.
+/// Writes elements with commas between, each after its type.
 #[cycle(put_init)]
 #[tactic(auto, using(crate::proofs::Steps::done))]
 fn put_elements(sheet: &mut Sheet, elements: &[(TyText, Init)]) -> Result<(), OutOfMemory>
-    ensures { OnOk result (sheet.new ≡ with_tokens sheet.old (parts.with_commas (map parts.init_element elements.now))) }
+    ensures { OnOk result
+        (sheet.new ≡ with_tokens sheet.old
+        (parts.with_commas (map parts.init_element elements.now))) }
 {
     'each: for (i, element) in elements.iter().enumerate() {
         put_comma(sheet, i)?;

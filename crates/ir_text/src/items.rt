@@ -1,3 +1,4 @@
+//! The text of items.
 ghost use Rattle.ir_text.specs.Parts as parts;
 ghost use Rattle.ir_text.specs.Printing.{with_token, with_tokens};
 ghost use Rattle.ir_text.specs.Spelling as canon;
@@ -14,7 +15,8 @@ use ir_tree::{Init, Item, Name, Op, TyText};
 
 #[tactic(auto, using(crate::proofs::Steps::step), unfolding(crate::specs::Parts::item_lexemes))]
 fn put_type_definition(sheet: &mut Sheet, name: &Name, ty: &TyText) -> Result<(), OutOfMemory>
-    ensures { OnOk result (sheet.new ≡ with_tokens sheet.old (parts.item_lexemes (tree.TypeDef name.now ty.now))) }
+    ensures { OnOk result
+        (sheet.new ≡ with_tokens sheet.old (parts.item_lexemes (tree.TypeDef name.now ty.now))) }
 {
     sheet.local(name)?;
     sheet.sign(b'=')?;
@@ -30,7 +32,8 @@ fn global_kind(constant: bool) -> &'static [u8]
 }
 
 fn put_global_kind(sheet: &mut Sheet, constant: bool) -> Result<(), OutOfMemory>
-    ensures { OnOk result (sheet.new ≡ with_token sheet.old (canon.word (parts.global_kind constant))) }
+    ensures { OnOk result
+        (sheet.new ≡ with_token sheet.old (canon.word (parts.global_kind constant))) }
 {
     sheet.word(global_kind(constant))?;
     Ok(())
@@ -44,7 +47,9 @@ fn put_global(
     ty: &TyText,
     init: &Init,
 ) -> Result<(), OutOfMemory>
-    ensures { OnOk result (sheet.new ≡ with_tokens sheet.old (parts.item_lexemes (tree.Global name.now constant ty.now init.now))) }
+    ensures { OnOk result
+        (sheet.new ≡ with_tokens sheet.old
+        (parts.item_lexemes (tree.Global name.now constant ty.now init.now))) }
 {
     sheet.global(name)?;
     sheet.sign(b'=')?;
@@ -61,7 +66,9 @@ fn put_declare(
     ty: &TyText,
     types: &[TyText],
 ) -> Result<(), OutOfMemory>
-    ensures { OnOk result (sheet.new ≡ with_tokens sheet.old (parts.item_lexemes (tree.Declare name.now ty.now types.now))) }
+    ensures { OnOk result
+        (sheet.new ≡ with_tokens sheet.old
+        (parts.item_lexemes (tree.Declare name.now ty.now types.now))) }
 {
     sheet.word(b"declare")?;
     put_type(sheet, ty)?;
@@ -77,7 +84,9 @@ fn put_in_parentheses(
     sheet: &mut Sheet,
     parameters: &[(TyText, Option<Name>)],
 ) -> Result<(), OutOfMemory>
-    ensures { OnOk result (sheet.new ≡ with_tokens sheet.old (parts.in_parentheses (map parts.parameter parameters.now))) }
+    ensures { OnOk result
+        (sheet.new ≡ with_tokens sheet.old
+        (parts.in_parentheses (map parts.parameter parameters.now))) }
 {
     sheet.sign(b'(')?;
     put_parameters(sheet, parameters)?;
@@ -92,7 +101,9 @@ fn put_head(
     ty: &TyText,
     parameters: &[(TyText, Option<Name>)],
 ) -> Result<(), OutOfMemory>
-    ensures { OnOk result (sheet.new ≡ with_tokens sheet.old (parts.item_lexemes (tree.Head name.now ty.now parameters.now))) }
+    ensures { OnOk result
+        (sheet.new ≡ with_tokens sheet.old
+        (parts.item_lexemes (tree.Head name.now ty.now parameters.now))) }
 {
     sheet.word(b"define")?;
     put_type(sheet, ty)?;
@@ -104,7 +115,8 @@ fn put_head(
 
 #[tactic(auto, using(crate::proofs::Steps::last), unfolding(crate::specs::Parts::item_lexemes))]
 fn put_label(sheet: &mut Sheet, name: &Name) -> Result<(), OutOfMemory>
-    ensures { OnOk result (sheet.new ≡ with_tokens sheet.old (parts.item_lexemes (tree.Label name.now))) }
+    ensures { OnOk result
+        (sheet.new ≡ with_tokens sheet.old (parts.item_lexemes (tree.Label name.now))) }
 {
     sheet.label(name)?;
     Ok(())
@@ -118,7 +130,7 @@ fn put_end(sheet: &mut Sheet) -> Result<(), OutOfMemory>
     Ok(())
 }
 
-/// Writes the result of an instruction and `=`, where it has one.
+/// Writes the result of an instruction and `=`, if it has one.
 #[tactic(auto, using(crate::proofs::Steps::step, crate::proofs::Steps::last, crate::proofs::Steps::done))]
 fn put_result(sheet: &mut Sheet, name: &Option<Name>) -> Result<(), OutOfMemory>
     ensures { OnOk result (sheet.new ≡ with_tokens sheet.old (parts.result name.now)) }
@@ -135,7 +147,8 @@ fn put_result(sheet: &mut Sheet, name: &Option<Name>) -> Result<(), OutOfMemory>
 
 #[tactic(auto, using(crate::proofs::Steps::part), unfolding(crate::specs::Parts::item_lexemes))]
 fn put_instruction(sheet: &mut Sheet, name: &Option<Name>, op: &Op) -> Result<(), OutOfMemory>
-    ensures { OnOk result (sheet.new ≡ with_tokens sheet.old (parts.item_lexemes (tree.Instr name.now op.now))) }
+    ensures { OnOk result
+        (sheet.new ≡ with_tokens sheet.old (parts.item_lexemes (tree.Instr name.now op.now))) }
 {
     put_result(sheet, name)?;
     put_op(sheet, op)?;
@@ -152,7 +165,7 @@ pub fn put_item(sheet: &mut Sheet, item: &Item) -> Result<(), OutOfMemory>
         Item::Declare(name, ty, types) => put_declare(sheet, name, ty, types.as_slice()),
         Item::Head(name, ty, parameters) => put_head(sheet, name, ty, parameters.as_slice()),
         Item::Label(name) => put_label(sheet, name),
-        Item::Instr(name, op) => put_instruction(sheet, name, op),
+        Item::Instr(name, op) => put_instruction(sheet, name, op.get()),
         Item::End => put_end(sheet),
     }
 }

@@ -15,4 +15,4 @@ mod words;
 
 pub use canonical::{print, print_instruction};
 pub use ir_tree::{Init, Item, Module, Name, Op, Opd, TyText};
-pub use laws::{canon_reads_back, plain_names};
+pub use laws::{canon_reads_back, instruction_lines, plain_names};

@@ -1,3 +1,4 @@
+//! The text of lists in instructions and heads.
 ghost use Rattle.ir_text.specs.Parts as parts;
 ghost use Rattle.ir_text.specs.Printing.{with_tokens};
 ghost use Rattle.std.specs.Prelude.{◌≡◌, map, OnOk};
@@ -18,10 +19,12 @@ pub fn put_target(sheet: &mut Sheet, name: &Name) -> Result<(), OutOfMemory>
     Ok(())
 }
 
-/// Writes the indices of a `getelementptr`, each behind a comma.
+/// Writes the indices of a `getelementptr`, each after a comma.
 #[tactic(auto, using(crate::proofs::Steps::done))]
 pub fn put_indices(sheet: &mut Sheet, indices: &[(TyText, Opd)]) -> Result<(), OutOfMemory>
-    ensures { OnOk result (sheet.new ≡ with_tokens sheet.old (parts.behind_commas (map parts.typed_operand indices.now))) }
+    ensures { OnOk result
+        (sheet.new ≡ with_tokens sheet.old
+        (parts.behind_commas (map parts.typed_operand indices.now))) }
 {
     'each: for index in indices {
         sheet.sign(b',')?;
@@ -33,7 +36,9 @@ pub fn put_indices(sheet: &mut Sheet, indices: &[(TyText, Opd)]) -> Result<(), O
 /// Writes the arguments of a call, with commas between.
 #[tactic(auto, using(crate::proofs::Steps::done))]
 pub fn put_arguments(sheet: &mut Sheet, arguments: &[(TyText, Opd)]) -> Result<(), OutOfMemory>
-    ensures { OnOk result (sheet.new ≡ with_tokens sheet.old (parts.with_commas (map parts.typed_operand arguments.now))) }
+    ensures { OnOk result
+        (sheet.new ≡ with_tokens sheet.old
+        (parts.with_commas (map parts.typed_operand arguments.now))) }
 {
     'each: for (i, argument) in arguments.iter().enumerate() {
         put_comma(sheet, i)?;
@@ -57,7 +62,8 @@ fn put_entry(sheet: &mut Sheet, entry: &(Opd, Name)) -> Result<(), OutOfMemory>
 /// Writes the entries of a `phi`, with commas between.
 #[tactic(auto, using(crate::proofs::Steps::done))]
 pub fn put_entries(sheet: &mut Sheet, entries: &[(Opd, Name)]) -> Result<(), OutOfMemory>
-    ensures { OnOk result (sheet.new ≡ with_tokens sheet.old (parts.with_commas (map parts.entry entries.now))) }
+    ensures { OnOk result
+        (sheet.new ≡ with_tokens sheet.old (parts.with_commas (map parts.entry entries.now))) }
 {
     'each: for (i, entry) in entries.iter().enumerate() {
         put_comma(sheet, i)?;
@@ -79,7 +85,8 @@ fn put_case(sheet: &mut Sheet, case: &(TyText, Opd, Name)) -> Result<(), OutOfMe
 /// Writes the cases of a `switch`.
 #[tactic(auto, using(crate::proofs::Steps::done))]
 pub fn put_cases(sheet: &mut Sheet, cases: &[(TyText, Opd, Name)]) -> Result<(), OutOfMemory>
-    ensures { OnOk result (sheet.new ≡ with_tokens sheet.old (parts.joined (map parts.case cases.now))) }
+    ensures { OnOk result
+        (sheet.new ≡ with_tokens sheet.old (parts.joined (map parts.case cases.now))) }
 {
     'each: for case in cases {
         put_case(sheet, case)?;
@@ -116,7 +123,9 @@ pub fn put_parameters(
     sheet: &mut Sheet,
     parameters: &[(TyText, Option<Name>)],
 ) -> Result<(), OutOfMemory>
-    ensures { OnOk result (sheet.new ≡ with_tokens sheet.old (parts.with_commas (map parts.parameter parameters.now))) }
+    ensures { OnOk result
+        (sheet.new ≡ with_tokens sheet.old
+        (parts.with_commas (map parts.parameter parameters.now))) }
 {
     'each: for (i, parameter) in parameters.iter().enumerate() {
         put_comma(sheet, i)?;

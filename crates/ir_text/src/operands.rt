@@ -1,3 +1,4 @@
+//! The text of operands.
 ghost use Rattle.ir_text.specs.Parts as parts;
 ghost use Rattle.ir_text.specs.Printing.{with_tokens};
 ghost use Rattle.ir_tree.specs.declared.operand.Opd.TheVariants as opd;
@@ -17,10 +18,12 @@ fn put_index(sheet: &mut Sheet, index: &(TyText, i128)) -> Result<(), OutOfMemor
     Ok(())
 }
 
-/// Writes the indices of a constant, each behind a comma.
+/// Writes the indices of a constant, each after a comma.
 #[tactic(auto, using(crate::proofs::Steps::done))]
 fn put_indices(sheet: &mut Sheet, indices: &[(TyText, i128)]) -> Result<(), OutOfMemory>
-    ensures { OnOk result (sheet.new ≡ with_tokens sheet.old (parts.behind_commas (map parts.constant_index indices.now))) }
+    ensures { OnOk result
+        (sheet.new ≡ with_tokens sheet.old
+        (parts.behind_commas (map parts.constant_index indices.now))) }
 {
     'each: for index in indices {
         sheet.sign(b',')?;
@@ -37,7 +40,9 @@ fn put_constant(
     name: &Name,
     indices: &[(TyText, i128)],
 ) -> Result<(), OutOfMemory>
-    ensures { OnOk result (sheet.new ≡ with_tokens sheet.old (parts.operand_lexemes (opd.Get of.now base.now name.now indices.now))) }
+    ensures { OnOk result
+        (sheet.new ≡ with_tokens sheet.old
+        (parts.operand_lexemes (opd.Get (of.now, base.now, name.now, indices.now)))) }
 {
     sheet.word(b"getelementptr")?;
     sheet.sign(b'(')?;
@@ -65,14 +70,15 @@ pub fn put_operand(sheet: &mut Sheet, operand: &Opd) -> Result<(), OutOfMemory>
         Opd::Undef => sheet.word(b"undef")?,
         Opd::Poison => sheet.word(b"poison")?,
         Opd::Zero => sheet.word(b"zeroinitializer")?,
-        Opd::Get(of, base, name, indices) => {
+        Opd::Get(parts) => {
+            let (of, base, name, indices) = parts.get();
             put_constant(sheet, of, base, name, indices.as_slice())?;
         }
     }
     Ok(())
 }
 
-/// Writes an operand behind its type.
+/// Writes an operand after its type.
 #[tactic(auto, using(crate::proofs::Steps::part))]
 pub fn put_typed(sheet: &mut Sheet, ty: &TyText, operand: &Opd) -> Result<(), OutOfMemory>
     ensures { OnOk result (sheet.new ≡ with_tokens sheet.old (parts.typed ty.now operand.now)) }

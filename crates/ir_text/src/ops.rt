@@ -1,3 +1,4 @@
+//! The text of instructions.
 ghost use Rattle.ir_text.specs.Parts as parts;
 ghost use Rattle.ir_text.specs.Printing.{with_tokens};
 ghost use Rattle.ir_tree.specs.declared.op.Op.TheVariants as tree;
@@ -18,7 +19,8 @@ fn put_binary(
     a: &Opd,
     b: &Opd,
 ) -> Result<(), OutOfMemory>
-    ensures { OnOk result (sheet.new ≡ with_tokens sheet.old (parts.op_lexemes (tree.Bin op ty.now a.now b.now))) }
+    ensures { OnOk result
+        (sheet.new ≡ with_tokens sheet.old (parts.op_lexemes (tree.Bin op ty.now a.now b.now))) }
 {
     sheet.binary(op)?;
     put_type(sheet, ty)?;
@@ -36,7 +38,8 @@ fn put_compare(
     a: &Opd,
     b: &Opd,
 ) -> Result<(), OutOfMemory>
-    ensures { OnOk result (sheet.new ≡ with_tokens sheet.old (parts.op_lexemes (tree.Cmp pred ty.now a.now b.now))) }
+    ensures { OnOk result
+        (sheet.new ≡ with_tokens sheet.old (parts.op_lexemes (tree.Cmp pred ty.now a.now b.now))) }
 {
     sheet.word(b"icmp")?;
     sheet.predicate(pred)?;
@@ -77,7 +80,9 @@ fn put_cast(
     a: &Opd,
     to: &TyText,
 ) -> Result<(), OutOfMemory>
-    ensures { OnOk result (sheet.new ≡ with_tokens sheet.old (parts.op_lexemes (tree.Cast cast ty.now a.now to.now))) }
+    ensures { OnOk result
+        (sheet.new ≡ with_tokens sheet.old
+        (parts.op_lexemes (tree.Cast cast ty.now a.now to.now))) }
 {
     sheet.cast(cast)?;
     put_typed(sheet, ty, a)?;
@@ -88,7 +93,8 @@ fn put_cast(
 
 #[tactic(auto, using(crate::proofs::Steps::step), unfolding(crate::specs::Parts::op_lexemes))]
 fn put_freeze(sheet: &mut Sheet, ty: &TyText, a: &Opd) -> Result<(), OutOfMemory>
-    ensures { OnOk result (sheet.new ≡ with_tokens sheet.old (parts.op_lexemes (tree.Freeze ty.now a.now))) }
+    ensures { OnOk result
+        (sheet.new ≡ with_tokens sheet.old (parts.op_lexemes (tree.Freeze ty.now a.now))) }
 {
     sheet.word(b"freeze")?;
     put_typed(sheet, ty, a)?;
@@ -115,7 +121,8 @@ fn put_alloca(
     ty: &TyText,
     count: &Option<(TyText, Opd)>,
 ) -> Result<(), OutOfMemory>
-    ensures { OnOk result (sheet.new ≡ with_tokens sheet.old (parts.op_lexemes (tree.Alloca ty.now count.now))) }
+    ensures { OnOk result
+        (sheet.new ≡ with_tokens sheet.old (parts.op_lexemes (tree.Alloca ty.now count.now))) }
 {
     sheet.word(b"alloca")?;
     put_type(sheet, ty)?;
@@ -125,7 +132,9 @@ fn put_alloca(
 
 #[tactic(auto, using(crate::proofs::Steps::step, crate::proofs::Steps::part), unfolding(crate::specs::Parts::op_lexemes))]
 fn put_load(sheet: &mut Sheet, ty: &TyText, base: &TyText, address: &Opd) -> Result<(), OutOfMemory>
-    ensures { OnOk result (sheet.new ≡ with_tokens sheet.old (parts.op_lexemes (tree.Load ty.now base.now address.now))) }
+    ensures { OnOk result
+        (sheet.new ≡ with_tokens sheet.old
+        (parts.op_lexemes (tree.Load ty.now base.now address.now))) }
 {
     sheet.word(b"load")?;
     put_type(sheet, ty)?;
@@ -142,7 +151,9 @@ fn put_store(
     base: &TyText,
     address: &Opd,
 ) -> Result<(), OutOfMemory>
-    ensures { OnOk result (sheet.new ≡ with_tokens sheet.old (parts.op_lexemes (tree.Store ty.now value.now base.now address.now))) }
+    ensures { OnOk result
+        (sheet.new ≡ with_tokens sheet.old
+        (parts.op_lexemes (tree.Store ty.now value.now base.now address.now))) }
 {
     sheet.word(b"store")?;
     put_typed(sheet, ty, value)?;
@@ -159,7 +170,9 @@ fn put_get(
     base: &Opd,
     indices: &[(TyText, Opd)],
 ) -> Result<(), OutOfMemory>
-    ensures { OnOk result (sheet.new ≡ with_tokens sheet.old (parts.op_lexemes (tree.Get of.now ty.now base.now indices.now))) }
+    ensures { OnOk result
+        (sheet.new ≡ with_tokens sheet.old
+        (parts.op_lexemes (tree.Get of.now ty.now base.now indices.now))) }
 {
     sheet.word(b"getelementptr")?;
     put_type(sheet, of)?;
@@ -171,7 +184,8 @@ fn put_get(
 
 #[tactic(auto, using(crate::proofs::Steps::step, crate::proofs::Steps::part), unfolding(crate::specs::Parts::op_lexemes))]
 fn put_phi(sheet: &mut Sheet, ty: &TyText, entries: &[(Opd, Name)]) -> Result<(), OutOfMemory>
-    ensures { OnOk result (sheet.new ≡ with_tokens sheet.old (parts.op_lexemes (tree.Phi ty.now entries.now))) }
+    ensures { OnOk result
+        (sheet.new ≡ with_tokens sheet.old (parts.op_lexemes (tree.Phi ty.now entries.now))) }
 {
     sheet.word(b"phi")?;
     put_type(sheet, ty)?;
@@ -186,7 +200,9 @@ fn put_call(
     callee: &Name,
     arguments: &[(TyText, Opd)],
 ) -> Result<(), OutOfMemory>
-    ensures { OnOk result (sheet.new ≡ with_tokens sheet.old (parts.op_lexemes (tree.Call ty.now callee.now arguments.now))) }
+    ensures { OnOk result
+        (sheet.new ≡ with_tokens sheet.old
+        (parts.op_lexemes (tree.Call ty.now callee.now arguments.now))) }
 {
     sheet.word(b"call")?;
     put_type(sheet, ty)?;
@@ -199,7 +215,8 @@ fn put_call(
 
 #[tactic(auto, using(crate::proofs::Steps::step), unfolding(crate::specs::Parts::op_lexemes))]
 fn put_jump(sheet: &mut Sheet, to: &Name) -> Result<(), OutOfMemory>
-    ensures { OnOk result (sheet.new ≡ with_tokens sheet.old (parts.op_lexemes (tree.Jump to.now))) }
+    ensures { OnOk result
+        (sheet.new ≡ with_tokens sheet.old (parts.op_lexemes (tree.Jump to.now))) }
 {
     sheet.word(b"br")?;
     put_target(sheet, to)?;
@@ -214,7 +231,9 @@ fn put_branch(
     chosen: &Name,
     other: &Name,
 ) -> Result<(), OutOfMemory>
-    ensures { OnOk result (sheet.new ≡ with_tokens sheet.old (parts.op_lexemes (tree.Branch ty.now condition.now chosen.now other.now))) }
+    ensures { OnOk result
+        (sheet.new ≡ with_tokens sheet.old
+        (parts.op_lexemes (tree.Branch ty.now condition.now chosen.now other.now))) }
 {
     sheet.word(b"br")?;
     put_typed(sheet, ty, condition)?;
@@ -233,7 +252,9 @@ fn put_switch(
     other: &Name,
     cases: &[(TyText, Opd, Name)],
 ) -> Result<(), OutOfMemory>
-    ensures { OnOk result (sheet.new ≡ with_tokens sheet.old (parts.op_lexemes (tree.Switch ty.now value.now other.now cases.now))) }
+    ensures { OnOk result
+        (sheet.new ≡ with_tokens sheet.old
+        (parts.op_lexemes (tree.Switch ty.now value.now other.now cases.now))) }
 {
     sheet.word(b"switch")?;
     put_typed(sheet, ty, value)?;
@@ -260,7 +281,8 @@ fn put_returned(sheet: &mut Sheet, value: &Option<(TyText, Opd)>) -> Result<(), 
 
 #[tactic(auto, using(crate::proofs::Steps::step), unfolding(crate::specs::Parts::op_lexemes))]
 fn put_ret(sheet: &mut Sheet, value: &Option<(TyText, Opd)>) -> Result<(), OutOfMemory>
-    ensures { OnOk result (sheet.new ≡ with_tokens sheet.old (parts.op_lexemes (tree.Ret value.now))) }
+    ensures { OnOk result
+        (sheet.new ≡ with_tokens sheet.old (parts.op_lexemes (tree.Ret value.now))) }
 {
     sheet.word(b"ret")?;
     put_returned(sheet, value)?;

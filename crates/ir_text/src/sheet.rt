@@ -1,3 +1,4 @@
+//! A text that grows by tokens, with the blanks between them.
 ghost use Rattle.ir_text.specs.Lines as spec;
 ghost use Rattle.ir_text.specs.Printing.{gap_after, with_token};
 ghost use Rattle.ir_text.specs.Spelling as canon;
@@ -7,11 +8,11 @@ use crate::spelling::{put_decimal, put_label_name, put_name, put_quoted, put_sig
 use crate::words::{binary_word, cast_word, predicate_word, width_word};
 use am_base::{BinOp, Cast, OutOfMemory, Pred, Width};
 use am_lists::Bytes;
-use ir_form::TokenKind;
+use ir_tokens::TokenKind;
 use ir_tree::Name;
 use std::alloc::Global;
 
-/// The text that is written so far, and the kind of the last token on its last line.
+/// The text written so far, and the kind of the last token on its last line.
 #[derive(Drop)]
 pub struct Sheet {
     pub text: Bytes,
@@ -75,7 +76,7 @@ fn is_tight(before: TokenKind, next: TokenKind) -> bool
     is_open(before) || is_closing(next) || (is_global(before) && is_open(next))
 }
 
-/// What stands before a token of the kind.
+/// The blank before a token of the kind, or nothing.
 fn gap(last: Option<TokenKind>, next: TokenKind) -> &'static [u8]
     ensures { result.now ≡ gap_after last next }
 {
@@ -96,7 +97,7 @@ impl Sheet {
         }
     }
 
-    /// Begins a token of the kind: what stands before it is written.
+    /// Begins a token of the kind: writes the blank before it, if any.
     pub fn begin(&mut self, kind: TokenKind) -> Result<(), OutOfMemory>
         ensures text { OnOk result (self.new.text ≡ self.old.text ++ gap_after self.old.last kind) }
         ensures last { OnOk result (self.new.last ≡ Some kind) }
@@ -127,7 +128,8 @@ impl Sheet {
 
     /// Writes the word of a width.
     pub fn width(&mut self, width: Width) -> Result<(), OutOfMemory>
-        ensures { OnOk result (self.new ≡ with_token self.old (canon.word (canon.width_word width))) }
+        ensures { OnOk result
+            (self.new ≡ with_token self.old (canon.word (canon.width_word width))) }
     {
         self.word(width_word(width))?;
         Ok(())
@@ -151,7 +153,8 @@ impl Sheet {
 
     /// Writes the word of a predicate.
     pub fn predicate(&mut self, pred: Pred) -> Result<(), OutOfMemory>
-        ensures { OnOk result (self.new ≡ with_token self.old (canon.word (canon.predicate_word pred))) }
+        ensures { OnOk result
+            (self.new ≡ with_token self.old (canon.word (canon.predicate_word pred))) }
     {
         self.word(predicate_word(pred))?;
         Ok(())

@@ -1,20 +1,20 @@
+//! The spelling of numbers, quoted texts and names.
 ghost use Rattle.std.specs.Char.{is_ascii_digit};
 ghost use Rattle.std.specs.Fmt.{digit_glyph, signed_decimal};
 ghost use Rattle.std.specs.Prelude.{◌≡◌, ◌<◌, ◌++◌, decimal, true, OnOk};
-ghost use Rattle.ir_form.specs.Bytes as bytes;
-ghost use Rattle.ir_form.specs.Front as front;
+ghost use Rattle.ir_tokens.specs.Bytes as bytes;
 ghost use Rattle.ir_text.specs.Spelling as spec;
 ghost use Rattle.std.specs.List.{list_all};
 
 use am_base::OutOfMemory;
 use am_lists::Bytes;
-use ir_form::is_digits;
+use ir_tokens::is_digits;
 use ir_tree::Name;
 use itoa::Buffer;
 
 // Numbers.
 
-/// Writes a number that isn't below 0.
+/// Writes a number of at least 0.
 pub fn put_decimal(out: &mut Bytes, n: u64) -> Result<(), OutOfMemory>
     ensures { OnOk result (out.new ≡ out.old ++ decimal n) }
 {
@@ -23,7 +23,7 @@ pub fn put_decimal(out: &mut Bytes, n: u64) -> Result<(), OutOfMemory>
     Ok(())
 }
 
-/// Writes a number with `-` before it where it is below 0.
+/// Writes a number, with `-` before it if it is negative.
 pub fn put_signed(out: &mut Bytes, n: i128) -> Result<(), OutOfMemory>
     ensures { OnOk result (out.new ≡ out.old ++ signed_decimal n) }
 {
@@ -105,7 +105,7 @@ fn is_run(text: &[u8]) -> bool
 }
 
 fn begins_with_digit(text: &[u8]) -> bool
-    ensures { result ≡ front.begins is_ascii_digit text.now }
+    ensures { result ≡ bytes.begins is_ascii_digit text.now }
 {
     match text.first() {
         Some(b) => b.is_ascii_digit(),

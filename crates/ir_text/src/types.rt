@@ -1,3 +1,4 @@
+//! The text of types.
 ghost use Rattle.ir_text.specs.Parts as parts;
 ghost use Rattle.ir_text.specs.Printing.{with_tokens};
 ghost use Rattle.std.specs.Prelude.{◌≡◌, map, OnOk};
@@ -49,7 +50,8 @@ pub fn put_type(sheet: &mut Sheet, ty: &TyText) -> Result<(), OutOfMemory>
 #[cycle(put_type)]
 #[tactic(auto, using(crate::proofs::Steps::done, crate::proofs::Steps::commas_turn))]
 pub fn put_types(sheet: &mut Sheet, types: &[TyText]) -> Result<(), OutOfMemory>
-    ensures { OnOk result (sheet.new ≡ with_tokens sheet.old (parts.with_commas (map parts.type_lexemes types.now))) }
+    ensures { OnOk result
+        (sheet.new ≡ with_tokens sheet.old (parts.with_commas (map parts.type_lexemes types.now))) }
 {
     'each: for (i, ty) in types.iter().enumerate() {
         put_comma(sheet, i)?;

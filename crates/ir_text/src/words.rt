@@ -1,9 +1,10 @@
+//! The words of widths, operations, conversions and predicates.
 ghost use Rattle.ir_text.specs.Spelling as spec;
 ghost use Rattle.std.specs.Prelude.{◌≡◌};
 
 use am_base::{BinOp, Cast, Pred, Width};
 
-/// The word that a type of this width is written as.
+/// The word of the integer type of this width.
 pub fn width_word(width: Width) -> &'static [u8]
     ensures { result.now ≡ spec.width_word width }
 {
@@ -16,7 +17,7 @@ pub fn width_word(width: Width) -> &'static [u8]
     }
 }
 
-/// The word that an instruction with this operation begins with.
+/// The word of a binary operation.
 pub fn binary_word(op: BinOp) -> &'static [u8]
     ensures { result.now ≡ spec.binary_word op }
 {
@@ -37,7 +38,7 @@ pub fn binary_word(op: BinOp) -> &'static [u8]
     }
 }
 
-/// The word that an instruction with this conversion begins with.
+/// The word of a conversion.
 pub fn cast_word(cast: Cast) -> &'static [u8]
     ensures { result.now ≡ spec.cast_word cast }
 {
@@ -50,7 +51,7 @@ pub fn cast_word(cast: Cast) -> &'static [u8]
     }
 }
 
-/// The word that stands behind `icmp` for this predicate.
+/// The word of a predicate of `icmp`.
 pub fn predicate_word(pred: Pred) -> &'static [u8]
     ensures { result.now ≡ spec.predicate_word pred }
 {

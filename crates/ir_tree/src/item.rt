@@ -1,10 +1,12 @@
+//! Items of a module.
 use crate::name::Name;
 use crate::op::Op;
 use crate::operand::Init;
 use crate::type_text::TyText;
 use am_lists::Items;
+use sqlite_items::Boxed;
 
-/// An item of a module's text: what stands, as a rule, on one line. Words that are skipped, flags,
+/// An item of a module's text: what is usually one line. Words that are skipped, flags,
 /// alignments, sections and metadata leave no trace here.
 ///
 /// LLVM Language Reference, "Module Structure" and "Functions". That a function is a head, labels,
@@ -22,8 +24,9 @@ pub enum Item {
     Head(Name, TyText, Items<(TyText, Option<Name>)>),
     /// The label of a block.
     Label(Name),
-    /// An instruction, and the local that is its result where one is written.
-    Instr(Option<Name>, Op),
+    /// An instruction, and the local that is its result where one is written. The instruction is
+    /// boxed, so that a label is short.
+    Instr(Option<Name>, Boxed<Op>),
     /// Where a function ends.
     End,
 }

@@ -1,7 +1,7 @@
 //! The tree of a module's text: what is left of its items once they are read, with names, types,
 //! operands and instructions as they are written.
 //!
-//! A value of these types is the tree alone, with no pointer in it, so two trees are equal where
+//! A value of these types is the tree alone, with no pointer in it, so two trees are equal iff
 //! contracts say that their values are.
 #![tactic(auto)]
 
@@ -10,7 +10,6 @@ mod item;
 mod name;
 mod op;
 mod operand;
-mod same_op;
 mod type_text;
 
 pub use item::{Item, Module};

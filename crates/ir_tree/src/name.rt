@@ -1,8 +1,9 @@
-ghost use Rattle.std.specs.Prelude.{◌≡◌, ◌↔◌, IsTrue, IfOk};
+//! Names.
+ghost use Rattle.std.specs.Prelude.{◌≡◌, IfOk};
 
 use am_base::OutOfMemory;
-use am_lists::Bytes;
-use std::alloc::Global;
+use am_lists::{Bytes, Same, TryClone};
+use std::alloc::{AllocError, Global};
 
 /// The name of a local, global, label or type, without the `%` or `@` before it or the `:` behind
 /// it. LLVM Language Reference, "Identifiers".
@@ -21,16 +22,21 @@ impl Name {
     pub fn copy(&self, alloc: Global) -> Result<Name, OutOfMemory>
         ensures { IfOk result (λ name. name ≡ self.now) }
     {
+        Ok(self.try_clone(alloc)?)
+    }
+}
+
+impl TryClone for Name {
+    fn try_clone(&self, alloc: Global) -> Result<Name, AllocError> {
         match self {
             Name::Text(bytes) => Ok(Name::Text(bytes.copy(alloc)?)),
             Name::Number(n) => Ok(Name::Number(*n)),
         }
     }
+}
 
-    /// Whether the two names are one.
-    pub fn is(&self, other: &Name) -> bool
-        ensures { IsTrue result ↔ (self.now ≡ other.now) }
-    {
+impl Same for Name {
+    fn same(&self, other: &Name) -> bool {
         self == other
     }
 }

@@ -1,12 +1,13 @@
-ghost use Rattle.std.specs.Prelude.{◌≡◌, ◌↔◌, IsTrue, IfOk};
+//! Instructions as they are written.
+ghost use Rattle.std.specs.Prelude.{◌≡◌, IfOk};
 
+use crate::copies::{four, three, two};
 use crate::name::Name;
 use crate::operand::Opd;
 use crate::type_text::TyText;
-use crate::{copies, same_op};
 use am_base::{BinOp, Cast, OutOfMemory, Pred};
-use am_lists::Items;
-use std::alloc::Global;
+use am_lists::{Items, Same, TryClone};
+use std::alloc::{AllocError, Global};
 
 /// An instruction as it is written, without its result, and with its parts in written order. LLVM
 /// Language Reference, "Instruction Reference".
@@ -53,47 +54,113 @@ impl Op {
     pub fn copy(&self, alloc: Global) -> Result<Op, OutOfMemory>
         ensures { IfOk result (λ op. op ≡ self.now) }
     {
+        Ok(self.try_clone(alloc)?)
+    }
+}
+
+impl TryClone for Op {
+    fn try_clone(&self, alloc: Global) -> Result<Op, AllocError> {
         match self {
-            Op::Bin(op, ty, a, b) => copies::copy_bin(alloc, *op, ty, a, b),
-            Op::Cmp(pred, ty, a, b) => copies::copy_cmp(alloc, *pred, ty, a, b),
-            Op::Select(s, c, t, a, u, b) => copies::copy_select(alloc, s, c, t, a, u, b),
-            Op::Cast(cast, ty, a, to) => copies::copy_cast(alloc, *cast, ty, a, to),
-            Op::Freeze(ty, a) => copies::copy_freeze(alloc, ty, a),
-            Op::Alloca(ty, count) => copies::copy_alloca(alloc, ty, count),
-            Op::Load(ty, base, a) => copies::copy_load(alloc, ty, base, a),
-            Op::Store(t, a, u, b) => copies::copy_store(alloc, t, a, u, b),
-            Op::Get(of, ty, base, indices) => copies::copy_get(alloc, of, ty, base, indices),
-            Op::Phi(ty, entries) => copies::copy_phi(alloc, ty, entries),
-            Op::Call(ty, callee, args) => copies::copy_call(alloc, ty, callee, args),
-            Op::Jump(to) => copies::copy_jump(alloc, to),
-            Op::Branch(ty, a, yes, no) => copies::copy_branch(alloc, ty, a, yes, no),
-            Op::Switch(ty, a, other, cases) => copies::copy_switch(alloc, ty, a, other, cases),
-            Op::Ret(value) => copies::copy_ret(alloc, value),
+            Op::Bin(op, ty, a, b) => {
+                let (ty, a, b) = three(alloc, ty, a, b)?;
+                Ok(Op::Bin(*op, ty, a, b))
+            }
+            Op::Cmp(pred, ty, a, b) => {
+                let (ty, a, b) = three(alloc, ty, a, b)?;
+                Ok(Op::Cmp(*pred, ty, a, b))
+            }
+            Op::Select(s, c, t, a, u, b) => {
+                let (s, c) = two(alloc, s, c)?;
+                let (t, a, u, b) = four(alloc, t, a, u, b)?;
+                Ok(Op::Select(s, c, t, a, u, b))
+            }
+            Op::Cast(cast, ty, a, to) => {
+                let (ty, a, to) = three(alloc, ty, a, to)?;
+                Ok(Op::Cast(*cast, ty, a, to))
+            }
+            Op::Freeze(ty, a) => {
+                let (ty, a) = two(alloc, ty, a)?;
+                Ok(Op::Freeze(ty, a))
+            }
+            Op::Alloca(ty, count) => {
+                let (ty, count) = two(alloc, ty, count)?;
+                Ok(Op::Alloca(ty, count))
+            }
+            Op::Load(ty, base, a) => {
+                let (ty, base, a) = three(alloc, ty, base, a)?;
+                Ok(Op::Load(ty, base, a))
+            }
+            Op::Store(t, a, u, b) => {
+                let (t, a, u, b) = four(alloc, t, a, u, b)?;
+                Ok(Op::Store(t, a, u, b))
+            }
+            Op::Get(of, ty, base, indices) => {
+                let (of, ty, base, indices) = four(alloc, of, ty, base, indices)?;
+                Ok(Op::Get(of, ty, base, indices))
+            }
+            Op::Phi(ty, entries) => {
+                let (ty, entries) = two(alloc, ty, entries)?;
+                Ok(Op::Phi(ty, entries))
+            }
+            Op::Call(ty, callee, args) => {
+                let (ty, callee, args) = three(alloc, ty, callee, args)?;
+                Ok(Op::Call(ty, callee, args))
+            }
+            Op::Jump(to) => Ok(Op::Jump(to.try_clone(alloc)?)),
+            Op::Branch(ty, a, yes, no) => {
+                let (ty, a, yes, no) = four(alloc, ty, a, yes, no)?;
+                Ok(Op::Branch(ty, a, yes, no))
+            }
+            Op::Switch(ty, a, other, cases) => {
+                let (ty, a, other, cases) = four(alloc, ty, a, other, cases)?;
+                Ok(Op::Switch(ty, a, other, cases))
+            }
+            Op::Ret(value) => Ok(Op::Ret(value.try_clone(alloc)?)),
             Op::Unreachable => Ok(Op::Unreachable),
         }
     }
+}
 
-    /// Whether the two instructions are written alike: the same form with equal parts.
-    pub fn is(&self, other: &Op) -> bool
-        ensures { IsTrue result ↔ (self.now ≡ other.now) }
-    {
-        match self {
-            Op::Bin(op, ty, a, b) => same_op::same_bin(*op, ty, a, b, other),
-            Op::Cmp(pred, ty, a, b) => same_op::same_cmp(*pred, ty, a, b, other),
-            Op::Select(s, c, t, a, u, b) => same_op::same_select(s, c, t, a, u, b, other),
-            Op::Cast(cast, ty, a, to) => same_op::same_cast(*cast, ty, a, to, other),
-            Op::Freeze(ty, a) => same_op::same_freeze(ty, a, other),
-            Op::Alloca(ty, count) => same_op::same_alloca(ty, count, other),
-            Op::Load(ty, base, a) => same_op::same_load(ty, base, a, other),
-            Op::Store(t, a, u, b) => same_op::same_store(t, a, u, b, other),
-            Op::Get(of, ty, base, indices) => same_op::same_get(of, ty, base, indices, other),
-            Op::Phi(ty, entries) => same_op::same_phi(ty, entries, other),
-            Op::Call(ty, callee, args) => same_op::same_call(ty, callee, args, other),
-            Op::Jump(to) => same_op::same_jump(to, other),
-            Op::Branch(ty, a, yes, no) => same_op::same_branch(ty, a, yes, no, other),
-            Op::Switch(ty, a, to, cases) => same_op::same_switch(ty, a, to, cases, other),
-            Op::Ret(value) => same_op::same_ret(value, other),
-            Op::Unreachable => matches!(other, Op::Unreachable),
+impl Same for Op {
+    fn same(&self, other: &Op) -> bool {
+        match (self, other) {
+            (Op::Bin(k, t, a, b), Op::Bin(l, u, c, d)) => {
+                k == l && t.same(u) && a.same(c) && b.same(d)
+            }
+            (Op::Cmp(k, t, a, b), Op::Cmp(l, u, c, d)) => {
+                k == l && t.same(u) && a.same(c) && b.same(d)
+            }
+            (Op::Select(s, c, t, a, u, b), Op::Select(x, d, y, e, z, f)) => {
+                s.same(x) && c.same(d) && t.same(y) && a.same(e) && u.same(z) && b.same(f)
+            }
+            (Op::Cast(k, t, a, to), Op::Cast(l, u, b, other)) => {
+                k == l && t.same(u) && a.same(b) && to.same(other)
+            }
+            (Op::Freeze(t, a), Op::Freeze(u, b)) => t.same(u) && a.same(b),
+            (Op::Alloca(t, count), Op::Alloca(u, other)) => t.same(u) && count.same(other),
+            (Op::Load(t, base, a), Op::Load(u, other, b)) => {
+                t.same(u) && base.same(other) && a.same(b)
+            }
+            (Op::Store(t, a, u, b), Op::Store(x, c, y, d)) => {
+                t.same(x) && a.same(c) && u.same(y) && b.same(d)
+            }
+            (Op::Get(of, t, base, indices), Op::Get(to, u, other, others)) => {
+                of.same(to) && t.same(u) && base.same(other) && indices.same(others)
+            }
+            (Op::Phi(t, entries), Op::Phi(u, others)) => t.same(u) && entries.same(others),
+            (Op::Call(t, callee, args), Op::Call(u, other, others)) => {
+                t.same(u) && callee.same(other) && args.same(others)
+            }
+            (Op::Jump(to), Op::Jump(other)) => to.same(other),
+            (Op::Branch(t, a, yes, no), Op::Branch(u, b, x, y)) => {
+                t.same(u) && a.same(b) && yes.same(x) && no.same(y)
+            }
+            (Op::Switch(t, a, to, cases), Op::Switch(u, b, other, others)) => {
+                t.same(u) && a.same(b) && to.same(other) && cases.same(others)
+            }
+            (Op::Ret(value), Op::Ret(other)) => value.same(other),
+            (Op::Unreachable, Op::Unreachable) => true,
+            _ => false,
         }
     }
 }

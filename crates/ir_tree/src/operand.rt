@@ -1,12 +1,13 @@
+//! Operands and initialisers as they are written.
 ghost use Rattle.std.specs.Prelude.{◌≡◌, ◌↔◌, IsTrue, IfOk};
 
-use crate::copies::copy_indices;
+use crate::copies::four;
 use crate::name::Name;
-use crate::same_op::same_get_constant;
 use crate::type_text::TyText;
 use am_base::OutOfMemory;
-use am_lists::{Bytes, Items};
-use std::alloc::Global;
+use am_lists::{Bytes, Items, Same, TryClone};
+use sqlite_items::Boxed;
+use std::alloc::{AllocError, Global};
 
 /// An operand as it is written. LLVM Language Reference, "Constants" and "Identifiers".
 #[derive(Drop)]
@@ -30,17 +31,18 @@ pub enum Opd {
     /// `zeroinitializer`.
     Zero,
     /// A `getelementptr` constant: the type that the indices go into, the type of the base, the
-    /// global that is the base, and each index with its type.
-    Get(TyText, TyText, Name, Items<(TyText, i128)>),
+    /// global that is the base, and each index with its type. It is boxed since it is rare and
+    /// three times as long as any other operand.
+    Get(Boxed<(TyText, TyText, Name, Items<(TyText, i128)>)>),
 }
 
-/// What a global begins with, as it is written. LLVM Language Reference, "Global Variables" and
-/// "Complex Constants".
+/// The initial value of a global, as it is written. LLVM Language Reference, "Global Variables"
+/// and "Complex Constants".
 #[derive(Drop)]
 pub enum Init {
     /// A constant that is one operand.
     One(Opd),
-    /// `c` and a quoted text, by the bytes that it stands for.
+    /// `c` and a quoted text, by the bytes that it denotes.
     Text(Bytes),
     /// The elements in `[ ]`, each with its type.
     Array(sqlite_items::Items<(TyText, Init)>),
@@ -53,9 +55,15 @@ impl Opd {
     pub fn copy(&self, alloc: Global) -> Result<Opd, OutOfMemory>
         ensures { IfOk result (λ operand. operand ≡ self.now) }
     {
+        Ok(self.try_clone(alloc)?)
+    }
+}
+
+impl TryClone for Opd {
+    fn try_clone(&self, alloc: Global) -> Result<Opd, AllocError> {
         match self {
-            Opd::Local(name) => Ok(Opd::Local(name.copy(alloc)?)),
-            Opd::Global(name) => Ok(Opd::Global(name.copy(alloc)?)),
+            Opd::Local(name) => Ok(Opd::Local(name.try_clone(alloc)?)),
+            Opd::Global(name) => Ok(Opd::Global(name.try_clone(alloc)?)),
             Opd::Number(n) => Ok(Opd::Number(*n)),
             Opd::True => Ok(Opd::True),
             Opd::False => Ok(Opd::False),
@@ -63,53 +71,36 @@ impl Opd {
             Opd::Undef => Ok(Opd::Undef),
             Opd::Poison => Ok(Opd::Poison),
             Opd::Zero => Ok(Opd::Zero),
-            Opd::Get(of, base, name, indices) => copy_get_constant(alloc, of, base, name, indices),
-        }
-    }
-
-    /// Whether the two operands are written alike, name for name and number for number.
-    pub fn is(&self, other: &Opd) -> bool
-        ensures { IsTrue result ↔ (self.now ≡ other.now) }
-    {
-        match self {
-            Opd::Local(a) => match other {
-                Opd::Local(b) => a.is(b),
-                _ => false,
-            },
-            Opd::Global(a) => match other {
-                Opd::Global(b) => a.is(b),
-                _ => false,
-            },
-            Opd::Number(a) => match other {
-                Opd::Number(b) => a == b,
-                _ => false,
-            },
-            Opd::True => matches!(other, Opd::True),
-            Opd::False => matches!(other, Opd::False),
-            Opd::Null => matches!(other, Opd::Null),
-            Opd::Undef => matches!(other, Opd::Undef),
-            Opd::Poison => matches!(other, Opd::Poison),
-            Opd::Zero => matches!(other, Opd::Zero),
-            Opd::Get(of, base, name, indices) => {
-                same_get_constant(of, base, name, indices, other)
+            Opd::Get(parts) => {
+                let (of, base, name, indices) = parts.get();
+                let copies = four(alloc, of, base, name, indices)?;
+                Ok(Opd::Get(Boxed::new(alloc, copies)?))
             }
         }
     }
 }
 
-fn copy_get_constant(
-    alloc: Global,
-    of: &TyText,
-    base: &TyText,
-    name: &Name,
-    indices: &Items<(TyText, i128)>,
-) -> Result<Opd, OutOfMemory>
-    ensures { IfOk result (λ operand. operand ≡ Opd.Get of.now base.now name.now indices.now) }
+impl Same for Opd {
+    fn same(&self, other: &Opd) -> bool {
+        match (self, other) {
+            (Opd::Local(a), Opd::Local(b)) | (Opd::Global(a), Opd::Global(b)) => a.same(b),
+            (Opd::Number(a), Opd::Number(b)) => a == b,
+            (Opd::True, Opd::True)
+            | (Opd::False, Opd::False)
+            | (Opd::Null, Opd::Null)
+            | (Opd::Undef, Opd::Undef)
+            | (Opd::Poison, Opd::Poison)
+            | (Opd::Zero, Opd::Zero) => true,
+            (Opd::Get(a), Opd::Get(b)) => same_constants(a.get(), b.get()),
+            _ => false,
+        }
+    }
+}
+
+type Constant = (TyText, TyText, Name, Items<(TyText, i128)>);
+
+fn same_constants(a: &Constant, b: &Constant) -> bool
+    ensures { IsTrue result ↔ (a.now ≡ b.now) }
 {
-    Ok(Opd::Get(
-        of.copy(alloc)?,
-        base.copy(alloc)?,
-        name.copy(alloc)?,
-        copy_indices(alloc, indices.as_slice())?,
-    ))
+    a.0.same(&b.0) && a.1.same(&b.1) && a.2.same(&b.2) && a.3.same(&b.3)
 }

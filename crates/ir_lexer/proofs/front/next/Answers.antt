@@ -1,5 +1,5 @@
 use Rattle.std.proofs.Common.{sym, ◌∙◌, subst}
-use Rattle.ir_form.proofs.Longest.{token-NoToken}
+use Rattle.ir_tokens.proofs.Longest.{token-NoToken}
 use Rattle.ir_lexer.specs.Answer.{Follows}
 use Rattle.ir_lexer.proofs.Turns.{token-le, token-Follows}
 use Rattle.ir_lexer.proofs.front.next.Goals as goal

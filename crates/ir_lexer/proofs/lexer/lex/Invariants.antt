@@ -1,5 +1,5 @@
 use Rattle.std.proofs.Common.{◌≤◌, length}
-use Rattle.ir_form.specs.Tokens.{Begins}
+use Rattle.ir_tokens.specs.Tokens.{Begins}
 use Rattle.ir_lexer.proofs.lexer.lex.Given as goal
 
 abbrev pub invariant-turns : goal.invariant-turns

@@ -1,5 +1,5 @@
 use Rattle.std.proofs.Common.{◌≡◌, ◌≤◌, length}
-use Rattle.ir_form.specs.Front.{skip_from, skip}
+use Rattle.ir_tokens.specs.Front.{skip_from, skip}
 use Rattle.ir_lexer.proofs.lexer.skip.Given as goal
 
 abbrev pub invariant-each : goal.invariant-each

@@ -1,5 +1,5 @@
 use Rattle.std.proofs.Common.{◌∙◌}
-use Rattle.ir_form.proofs.Digits.{is_some-SomeIff}
+use Rattle.ir_tokens.proofs.Digits.{is_some-SomeIff}
 use Rattle.ir_lexer.proofs.parts.is_small_number.Goals as goal
 
 pub returns : goal.returns

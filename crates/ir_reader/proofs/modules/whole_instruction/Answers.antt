@@ -10,4 +10,5 @@ pub returns-in-Err-NotHere : goal.returns-in-Err-NotHere
 returns-in-Err-NotHere c = nothing_whole _ (ap (λ ts. item.parse ts) (sym c.new-cursor.ensures) ∙ (rw c.in-Err-NotHere.field-0-is at c.in-Err-NotHere.ensures))
 
 pub returns-else-left-gt0 : goal.returns-else-left-gt0
-returns-else-left-gt0 c = all_read _ c.in-Ok.found c.item.new.cursor (ap (λ ts. item.parse ts) (sym c.new-cursor.ensures) ∙ c.in-Ok.ensures) (omega arith) c.bare_instruction.result c.bare_instruction.ensures
+returns-else-left-gt0 c = all_read _ c.in-Ok.found c.item.new.cursor (ap (λ ts. item.parse ts) (sym c.new-cursor.ensures) ∙ c.in-Ok.ensures)
+    (omega arith) c.bare_instruction.result c.bare_instruction.ensures

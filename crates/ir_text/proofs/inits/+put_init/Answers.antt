@@ -11,7 +11,8 @@ put_elements-put_init-requires t c =
     search rules
 
 pub put_elements-each-preserved : goal.put_elements-each-preserved
-put_elements-each-preserved t c = commas_turn parts.init_element c.args.elements.now c.each.i c.index-elements-i.result _ _ _ _ c.each-test.true c.index-elements-i.is c.each.invariant c.in_ok-put_comma.ensures
+put_elements-each-preserved t c = commas_turn parts.init_element c.args.elements.now c.each.i c.index-elements-i.result _ _ _ _ c.each-test.true
+    c.index-elements-i.is c.each.invariant c.in_ok-put_comma.ensures
     (part _ _ _ _ _ c.in_ok-put_type.ensures c.in_ok-put_init.ensures)
 
 pub put_init-put_elements-requires : goal.put_init-put_elements-requires
@@ -35,7 +36,9 @@ pub put_init-returns-in_ok-cstring-in-Text : goal.put_init-returns-in_ok-cstring
 put_init-returns-in_ok-cstring-in-Text t c = of_text _ _ _ _ _ c.in-Text.is c.as_slice.ensures (last _ _ _ c.in_ok-cstring-in-Text.ensures)
 
 pub put_init-returns-in_ok-sign-in-Array-2 : goal.put_init-returns-in_ok-sign-in-Array-2
-put_init-returns-in_ok-sign-in-Array-2 t c = of_array _ _ _ _ _ c.in-Array.is c.as_slice-in-Array.ensures (step _ _ _ _ _ c.in_ok-sign-in-Array.ensures (part _ _ _ _ _ c.in_ok-put_elements-in-Array.ensures (last _ _ _ c.in_ok-sign-in-Array-2.ensures)))
+put_init-returns-in_ok-sign-in-Array-2 t c = of_array _ _ _ _ _ c.in-Array.is c.as_slice-in-Array.ensures
+    (step _ _ _ _ _ c.in_ok-sign-in-Array.ensures (part _ _ _ _ _ c.in_ok-put_elements-in-Array.ensures (last _ _ _ c.in_ok-sign-in-Array-2.ensures)))
 
 pub put_init-returns-in_ok-sign-in-Struct-2 : goal.put_init-returns-in_ok-sign-in-Struct-2
-put_init-returns-in_ok-sign-in-Struct-2 t c = of_struct _ _ _ _ _ c.in-Struct.is c.as_slice-in-Struct.ensures (step _ _ _ _ _ c.in_ok-sign-in-Struct.ensures (part _ _ _ _ _ c.in_ok-put_elements-in-Struct.ensures (last _ _ _ c.in_ok-sign-in-Struct-2.ensures)))
+put_init-returns-in_ok-sign-in-Struct-2 t c = of_struct _ _ _ _ _ c.in-Struct.is c.as_slice-in-Struct.ensures
+    (step _ _ _ _ _ c.in_ok-sign-in-Struct.ensures (part _ _ _ _ _ c.in_ok-put_elements-in-Struct.ensures (last _ _ _ c.in_ok-sign-in-Struct-2.ensures)))

@@ -4,4 +4,5 @@ use Rattle.ir_text.proofs.ops.put_branch.Goals as goal
 
 pub returns : goal.returns
 unfolding op_lexemes
-returns c = step _ _ _ _ _ c.in_ok-word.ensures (part _ _ _ _ _ c.in_ok-put_typed.ensures (step _ _ _ _ _ c.in_ok-sign.ensures (part _ _ _ _ _ c.in_ok-put_target.ensures (step _ _ _ _ _ c.in_ok-sign-2.ensures c.in_ok-put_target-2.ensures))))
+returns c = step _ _ _ _ _ c.in_ok-word.ensures (part _ _ _ _ _ c.in_ok-put_typed.ensures
+    (step _ _ _ _ _ c.in_ok-sign.ensures (part _ _ _ _ _ c.in_ok-put_target.ensures (step _ _ _ _ _ c.in_ok-sign-2.ensures c.in_ok-put_target-2.ensures))))

@@ -4,4 +4,5 @@ use Rattle.ir_text.proofs.ops.put_get.Goals as goal
 
 pub returns : goal.returns
 unfolding op_lexemes
-returns c = step _ _ _ _ _ c.in_ok-word.ensures (part _ _ _ _ _ c.in_ok-put_type.ensures (step _ _ _ _ _ c.in_ok-sign.ensures (part _ _ _ _ _ c.in_ok-put_typed.ensures c.in_ok-put_indices.ensures)))
+returns c = step _ _ _ _ _ c.in_ok-word.ensures (part _ _ _ _ _ c.in_ok-put_type.ensures
+    (step _ _ _ _ _ c.in_ok-sign.ensures (part _ _ _ _ _ c.in_ok-put_typed.ensures c.in_ok-put_indices.ensures)))

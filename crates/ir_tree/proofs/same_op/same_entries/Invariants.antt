@@ -1,5 +1,0 @@
-use Rattle.std.proofs.Common.{◌≡◌, take, length}
-use Rattle.ir_tree.proofs.same_op.same_entries.Given as goal
-
-abbrev pub invariant-each : goal.invariant-each
-invariant-each l = (length l.xs ≡ length l.ys) × (take l.i l.xs ≡ take l.i l.ys)
