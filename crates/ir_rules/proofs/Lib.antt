@@ -1,0 +1,4 @@
+pub mod FirstFaults
+pub mod Passing
+pub mod Examples
+mod TypeExamples

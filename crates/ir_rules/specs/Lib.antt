@@ -1,0 +1,16 @@
+pub mod Types
+pub mod Scopes
+pub mod Parts
+pub mod Entities
+pub mod Settings
+pub mod Operands
+pub mod Blocks
+pub mod Calls
+pub mod Paths
+pub mod Initialisers
+pub mod Memory
+pub mod Limits
+pub mod Rules
+pub mod Codes
+pub mod Modules
+pub mod Replacements
