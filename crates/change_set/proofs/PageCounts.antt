@@ -3,8 +3,8 @@ use Rattle.std.proofs.Common.{◌≡◌, ◌≢◌, ℕ, zero, suc, ◌+◌, ◌
 use Rattle.std.proofs.lemmas.Bool.Decides.{nat_tests}
 use Rattle.std.specs.List.Sorted.{IsStrictlyIncreasing}
 use Rattle.std.specs.Set.{is_member}
-use Rattle.change_set.specs.Pages.{page_of, pages_of}
-use Rattle.change_set.proofs.Rises.{rest_rises}
+use Rattle.machine_form.specs.Pages.{page_of, pages_of}
+use Rattle.machine_form.proofs.Rises.{rest_rises}
 
 abbrev addresses : List (ℕ × ℕ) → List ℕ
 addresses bytes = map (λ b. b.0) bytes
@@ -27,7 +27,8 @@ counted_last : (b : ℕ × ℕ) (d : ℕ × ℕ) (bytes : List (ℕ × ℕ)) →
     → pages_of (b ∷ d ∷ bytes) ≡ suc (pages_of (d ∷ bytes))
 counted_last b d bytes r ne =
     let rises : b.0 < d.0 = r 0 (omega arith) in
-    let apart : is_member nat_eq (pages_in (d ∷ bytes)) (page_of b.0) ≡ false = absent_below (page_of b.0) d bytes (rest_rises b.0 (addresses (d ∷ bytes)) r) (omega arith) in
+    let apart : is_member nat_eq (pages_in (d ∷ bytes)) (page_of b.0) ≡ false =
+    absent_below (page_of b.0) d bytes (rest_rises b.0 (addresses (d ∷ bytes)) r) (omega arith) in
     rw apart refl
 
 -- another address of the page follows
@@ -60,7 +61,8 @@ pub page_counted : (bytes : List (ℕ × ℕ)) (i : ℕ) (x : ℕ × ℕ) → Is
     → pages_of (drop i bytes) ≡ pages_of (drop (suc i) bytes) + cond (not (nat_eq (page_of (get_or bytes i x).0) (page_of (get_or bytes (suc i) x).0))) 1 0
 page_counted bytes i x r l = by (nat_eq (page_of (get_or bytes i x).0) (page_of (get_or bytes (suc i) x).0)) refl
   where
-    by : (b : Bool) → nat_eq (page_of (get_or bytes i x).0) (page_of (get_or bytes (suc i) x).0) ≡ b → pages_of (drop i bytes) ≡ pages_of (drop (suc i) bytes) + cond (not b) 1 0
+    by : (b : Bool) → nat_eq (page_of (get_or bytes i x).0) (page_of (get_or bytes (suc i) x).0) ≡ b
+        → pages_of (drop i bytes) ≡ pages_of (drop (suc i) bytes) + cond (not b) 1 0
     by true e =
         let same : page_of (get_or bytes (suc i) x).0 ≡ page_of (get_or bytes i x).0 = grind (arith, nat_tests) in
         omega (arith, together_counted bytes i x l same)

@@ -1,15 +1,10 @@
-//! What one instruction does to a state: the change as a value, and the definitions of states, of the change that an instruction makes and
-//! of the state after it.
+//! Changes compared and counted by pages, and the laws of the changes that instructions make. The
+//! types and the definitions of their meaning are those of `machine_form`.
 #![tactic(auto)]
 
 mod change;
-mod frame;
 mod law;
-#[cfg(test)]
-mod tests;
-mod writes;
 
-pub use change::{Change, Control, pages, same};
-pub use frame::Frame;
-pub use law::{changes_compared, changes_determined, states_kept};
-pub use writes::{ByteWrites, RegisterWrites};
+pub use change::{pages, same};
+pub use law::{changes_compared, changes_determined, changes_light, states_kept, variants_known};
+pub use machine_form::{ByteWrites, Change, Control, RegisterWrites};

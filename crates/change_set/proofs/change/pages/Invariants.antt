@@ -1,5 +1,5 @@
 use Rattle.std.proofs.Common.{◌≡◌, ◌+◌, ◌≤◌, drop}
-use Rattle.change_set.specs.Pages.{pages_of}
+use Rattle.machine_form.specs.Pages.{pages_of}
 use Rattle.change_set.proofs.change.pages.Given as goal
 
 abbrev pub invariant-loop-i : goal.invariant-loop-i

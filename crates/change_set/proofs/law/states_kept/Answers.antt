@@ -1,5 +1,5 @@
-use Rattle.change_set.proofs.StartStates.{states_begin}
-use Rattle.change_set.proofs.Kept.{states_stay}
+use Rattle.machine_form.proofs.StartStates.{states_begin}
+use Rattle.machine_form.proofs.Kept.{states_stay}
 use Rattle.change_set.proofs.law.states_kept.Goals as goal
 
 pub returns : goal.returns

@@ -1,0 +1,17 @@
+pub mod Rises
+pub mod Fits
+pub mod SoundStates
+pub mod StartStates
+pub mod SoundSteps
+pub mod FoundPlaces
+pub mod SoundEdges
+pub mod SoundCalls
+pub mod Kept
+pub mod SameTests
+pub mod ChangeShapes
+pub mod ByteLists
+pub mod StraightLaw
+pub mod StraightShapes
+pub mod Apart
+pub mod ChangeLaw
+pub mod LightChanges

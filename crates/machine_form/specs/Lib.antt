@@ -1,0 +1,13 @@
+pub mod State
+pub mod Pages
+pub mod Straight
+pub mod Edge
+pub mod Calls
+pub mod Next
+pub mod After
+pub mod Start
+pub mod Same
+pub mod Machine
+pub mod SoundState
+pub mod StepLaw
+pub mod EqualChanges
