@@ -6,11 +6,11 @@ use Rattle.std.proofs.lemmas.List.{reverse-append}
 use Rattle.std.proofs.lemmas.List.Sums.{sum_by-cons, sum_by_push}
 use Rattle.std.proofs.lemmas.List.Sorted.{sum_by-IsPermutation, IsPermutation-reverse}
 use Rattle.code_form.specs.declared.code.Code.{Code}
-use Rattle.change_set.specs.declared.change.Change.{Change}
-use Rattle.change_set.specs.declared.change.Control.TheVariants.{Enter}
-use Rattle.change_set.specs.declared.frame.Frame.{Frame}
-use Rattle.change_set.specs.State.{State, with_bytes}
-use Rattle.change_set.specs.After.{after_change, moved, frame_of_call, frame_after, callers_after, output_after, ending_after}
+use Rattle.machine_form.specs.declared.change.Change.{Change}
+use Rattle.machine_form.specs.declared.change.Control.TheVariants.{Enter}
+use Rattle.machine_form.specs.declared.frame.Frame.{Frame}
+use Rattle.machine_form.specs.State.{State, with_bytes}
+use Rattle.machine_form.specs.After.{after_change, moved, frame_of_call, frame_after, callers_after, output_after, ending_after}
 use Rattle.plain_machine.specs.Plain.{IsQuiet}
 
 abbrev registers_of : Frame → ℕ

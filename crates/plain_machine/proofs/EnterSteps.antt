@@ -6,11 +6,11 @@ use Rattle.std.proofs.lemmas.Bool.Decides.{nat_tests}
 use Rattle.am_base.specs.declared.outcome.Trap.TheVariants.{DepthFull, RegistersFull}
 use Rattle.code_form.specs.declared.code.Code.{Code}
 use Rattle.code_form.specs.Places.{function_at}
-use Rattle.change_set.specs.declared.change.Change.{Change}
-use Rattle.change_set.specs.declared.change.Control.TheVariants.{Enter}
-use Rattle.change_set.specs.State.{State, frames_of, words_of}
-use Rattle.change_set.specs.Straight.{trap_change, with_value}
-use Rattle.change_set.specs.Calls.{numbered, enter_change}
+use Rattle.machine_form.specs.declared.change.Change.{Change}
+use Rattle.machine_form.specs.declared.change.Control.TheVariants.{Enter}
+use Rattle.machine_form.specs.State.{State, frames_of, registers_in_use}
+use Rattle.machine_form.specs.Straight.{trap_change, with_value}
+use Rattle.machine_form.specs.Calls.{numbered, enter_change}
 
 not_more : (n : ℕ) → n < 511 → nat_lt 512 (n + 1 + 1) ≡ false
 not_more n h = grind (arith, nat_tests)
@@ -38,13 +38,13 @@ module _ (code : Code) (s : State) (f : ℕ) (ws : List (ℕ × ℕ)) (o : Optio
   enough : nat_lt 512 (frames_of s + 1) ≡ false
   enough = not_more (length s.callers) few
 
-  pub full : 32768 < words_of s + (function_at code f).registers → trap_change s RegistersFull ≡ with_value s o (λ xs. enter_change code s f xs)
+  pub full : 32768 < registers_in_use s + (function_at code f).registers → trap_change s RegistersFull ≡ with_value s o (λ xs. enter_change code s f xs)
   full more = called (trap_change s RegistersFull) (λ xs _.
-      ap (λ b. cond b (trap_change s RegistersFull) (entry s f (numbered 0 xs))) (sym (above (words_of s + (function_at code f).registers) 32768 more))
-      ∙ ap (λ b. cond b (trap_change s DepthFull) (cond (nat_lt 32768 (words_of s + (function_at code f).registers)) (trap_change s RegistersFull) (entry s f (numbered 0 xs)))) (sym enough))
+      ap (λ b. cond b (trap_change s RegistersFull) (entry s f (numbered 0 xs))) (sym (above (registers_in_use s + (function_at code f).registers) 32768 more))
+      ∙ ap (λ b. cond b (trap_change s DepthFull) (cond (nat_lt 32768 (registers_in_use s + (function_at code f).registers)) (trap_change s RegistersFull) (entry s f (numbered 0 xs)))) (sym enough))
 
-  pub room : words_of s + (function_at code f).registers ≤ 32768 → entry s f ws ≡ with_value s o (λ xs. enter_change code s f xs)
+  pub room : registers_in_use s + (function_at code f).registers ≤ 32768 → entry s f ws ≡ with_value s o (λ xs. enter_change code s f xs)
   room fits = called (entry s f ws) (λ xs same.
       ap (entry s f) same
-      ∙ ap (λ b. cond b (trap_change s RegistersFull) (entry s f (numbered 0 xs))) (sym (most (words_of s + (function_at code f).registers) 32768 fits))
-      ∙ ap (λ b. cond b (trap_change s DepthFull) (cond (nat_lt 32768 (words_of s + (function_at code f).registers)) (trap_change s RegistersFull) (entry s f (numbered 0 xs)))) (sym enough))
+      ∙ ap (λ b. cond b (trap_change s RegistersFull) (entry s f (numbered 0 xs))) (sym (most (registers_in_use s + (function_at code f).registers) 32768 fits))
+      ∙ ap (λ b. cond b (trap_change s DepthFull) (cond (nat_lt 32768 (registers_in_use s + (function_at code f).registers)) (trap_change s RegistersFull) (entry s f (numbered 0 xs)))) (sym enough))

@@ -10,7 +10,8 @@ use Rattle.code_form.specs.declared.code.Func.{Func}
 use Rattle.code_form.specs.declared.code.Code.{Code}
 use Rattle.code_form.specs.Places.{lies_in, lies_in_some, block_in, function_in, function_of}
 use Rattle.code_form.specs.Sound.{IsSound, AreLaid}
-use Rattle.change_set.proofs.Fits.{laid-le, laid_front}
+use Rattle.machine_form.proofs.Fits.{laid_front}
+use Rattle.machine_form.proofs.FoundPlaces.{within, past, lies_past}
 use Rattle.plain_machine.specs.declared.spots.Spot.{Spot}
 use Rattle.plain_machine.specs.Spots.{IsSpot, AreSpots, spots_of_blocks, spots_of_functions}
 
@@ -33,23 +34,11 @@ one_of (suc n) x y (suc i) e = one_of n x y i e
 
 -- ---- the blocks of a function
 
-within : (b : Block) (at : ℕ) → b.first ≤ at → at < b.first + b.len → lies_in at b ≡ true
-within b at from below = grind (arith, nat_tests)
-
-past : (b : Block) (at : ℕ) → b.first + b.len ≤ at → lies_in at b ≡ false
-past b at l = grind (arith, nat_tests)
-
 less : (n m : ℕ) → nat_lt n m ≡ true → n < m
 less n m e = grind (arith, nat_tests)
 
 not_less : (n m : ℕ) → nat_lt n m ≡ false → m ≤ n
 not_less n m e = grind (arith, nat_tests)
-
-lies_past : (from : ℕ) (blocks : List Block) (to at : ℕ) → AreLaid from blocks to → to ≤ at → lies_in_some at blocks ≡ false
-lies_past from [] to at h l = refl
-lies_past from (b ∷ blocks) to at h l =
-    let more : from + b.len ≤ to = laid-le (from + b.len) blocks to h.1 in
-    ap (λ c. c || lies_in_some at blocks) (past b at (omega (arith, h.0, more))) ∙ lies_past (from + b.len) blocks to at h.1 l
 
 length-blocks : (f b from : ℕ) (blocks : List Block) (to : ℕ) → AreLaid from blocks to → from + length (spots_of_blocks f b blocks) ≡ to
 length-blocks f b from [] to h = omega (arith, h)

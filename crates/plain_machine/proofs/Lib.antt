@@ -8,3 +8,4 @@ pub mod FoundSpots
 pub mod WriteSteps
 pub mod CountedWords
 pub mod EnterSteps
+pub mod Asked

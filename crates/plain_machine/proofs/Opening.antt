@@ -1,7 +1,7 @@
 -- The opening bytes, filled up with zeros.
 use Rattle.std.proofs.Common.{◌≡◌, ℕ, ◌-◌, ◌≤◌, List, ◌++◌, length, take, replicate, refl}
 use Rattle.std.proofs.Math.Seq.{take_all}
-use Rattle.change_set.specs.Start.{zeros}
+use Rattle.machine_form.specs.Start.{zeros}
 
 pub filled : (k n : ℕ) (bytes memory : List ℕ) → bytes ≡ memory → n ≡ length memory → length memory ≤ k → take k bytes ++ replicate (k - n) 0 ≡ memory ++ zeros (k - length memory)
 unfolding zeros

@@ -1,7 +1,7 @@
 -- One more byte of a store.
 use Rattle.std.proofs.Common.{◌≡◌, ◌≢◌, ℕ, zero, suc, ◌+◌, ◌-◌, ◌*◌, ◌/◌, ◌%◌, ◌<◌, List, [], ◌∷◌, ◌++◌, get_or, arith, sym, ◌∙◌, ap, refl, append_assoc}
 use Rattle.std.proofs.lemmas.Bool.Decides.{nat_tests}
-use Rattle.change_set.specs.Straight.{bytes_from, differing}
+use Rattle.machine_form.specs.Straight.{bytes_from, differing}
 
 step : (bytes : List ℕ) (at rest k : ℕ) → get_or bytes at 0 ≢ rest % 256 → differing bytes at (bytes_from (suc k) rest) ≡ (at, rest % 256) ∷ differing bytes (at + 1) (bytes_from k (rest / 256))
 step bytes at rest k h = grind (arith, nat_tests)

@@ -7,8 +7,8 @@ use Rattle.am_base.specs.declared.word.Width.{Width}
 use Rattle.am_base.specs.declared.word.Width.TheVariants.{W64}
 use Rattle.am_base.specs.Word.{signed, word_of, floor_div}
 use Rattle.code_form.specs.declared.instr.Operand.{Operand}
-use Rattle.change_set.specs.State.{State}
-use Rattle.change_set.specs.Straight.{value_of, values_of, joined, scaled_sum}
+use Rattle.machine_form.specs.State.{State}
+use Rattle.machine_form.specs.Straight.{value_of, values_of, joined, scaled_sum}
 
 -- a whole number is its word and a multiple of 2^64
 word_and_rest : (z : ℤ) → z ≡ pos (word_of W64 z) +ℤ (pos (2 ^ 64) *ℤ floor_div z (2 ^ 64))

@@ -6,17 +6,17 @@ use Rattle.code_form.specs.declared.instr.Instr.{Instr}
 use Rattle.code_form.specs.declared.code.Block.{Block}
 use Rattle.code_form.specs.declared.code.Code.{Code}
 use Rattle.code_form.specs.Places.{block_in, function_of, block_of, instrs_of, results_of}
-use Rattle.change_set.specs.declared.change.Change.{Change}
-use Rattle.change_set.specs.declared.change.Control.TheVariants.{Jump as Go}
-use Rattle.change_set.specs.State.{State}
-use Rattle.change_set.specs.Straight.{with_value}
-use Rattle.change_set.specs.Edge.{phi_writes, block_now, jump_change, case_of}
+use Rattle.machine_form.specs.declared.change.Change.{Change}
+use Rattle.machine_form.specs.declared.change.Control.TheVariants.{Jump as Go}
+use Rattle.machine_form.specs.State.{State}
+use Rattle.machine_form.specs.Straight.{with_value}
+use Rattle.machine_form.specs.Edge.{phi_writes, block_now, jump_change, case_of}
 use Rattle.plain_machine.specs.declared.spots.Spot.{Spot}
 use Rattle.plain_machine.specs.Spots.{AreSpots}
 use Rattle.plain_machine.specs.Operands.{CanGo}
 use Rattle.plain_machine.proofs.FoundSpots.{block_read}
 
-abbrev pub after_front : List (ℕ × ℕ) → Option (List (ℕ × ℕ)) → Option (List (ℕ × ℕ))
+abbrev pub after_front : {X : Type 0} → List X → Option (List X) → Option (List X)
 after_front front None = None
 after_front front (Some ws) = Some (front ++ ws)
 

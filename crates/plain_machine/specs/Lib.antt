@@ -3,3 +3,4 @@ pub mod Spots
 pub mod Operands
 pub mod Plain
 pub mod Running
+pub mod Tolls

@@ -2,10 +2,10 @@
 use Rattle.std.specs.Prelude.{◌≡◌, ℕ, ◌+◌, ◌^◌, ◌<◌, false, [], length, None}
 use Rattle.code_form.specs.declared.code.Code.{Code}
 use Rattle.code_form.specs.Places.{function_at}
-use Rattle.change_set.specs.declared.change.Change.{Change}
-use Rattle.change_set.specs.declared.change.Control.{Control}
-use Rattle.change_set.specs.declared.change.Control.TheVariants.{Next, Jump, Enter, Leave, End}
-use Rattle.change_set.specs.State.{State, words_of}
+use Rattle.machine_form.specs.declared.change.Change.{Change}
+use Rattle.machine_form.specs.declared.change.Control.{Control}
+use Rattle.machine_form.specs.declared.change.Control.TheVariants.{Next, Jump, Enter, Leave, End}
+use Rattle.machine_form.specs.State.{State, registers_in_use}
 use Rattle.plain_machine.specs.Operands.{CanGo}
 
 -- no byte of memory changes, nothing is put out, and no input is used
@@ -19,7 +19,7 @@ pub record CanEnter (code : Code) (s : State) (f : ℕ) : Type 0 where
   pub defined : f < length code.funcs
   pub block : 0 < length (function_at code f).blocks
   pub place : s.running.place + 1 < 2 ^ 32
-  pub words : words_of s + (function_at code f).registers < 2 ^ 32
+  pub words : registers_in_use s + (function_at code f).registers < 2 ^ 32
 
 -- the control of the change leads somewhere
 abbrev pub CanApply : Code → State → Change → Control → Type 0

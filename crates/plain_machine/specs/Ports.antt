@@ -1,6 +1,6 @@
 -- A code without ports.
 use Rattle.std.specs.Prelude.{None}
-use Rattle.change_set.specs.Calls.{Answers}
+use Rattle.machine_form.specs.Calls.{Answers}
 
 -- no port answers
 abbrev pub no_answers : Answers

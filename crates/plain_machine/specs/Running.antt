@@ -1,8 +1,8 @@
 -- A state from which a sound code runs.
 use Rattle.std.specs.Prelude.{◌<◌, All}
 use Rattle.code_form.specs.declared.code.Code.{Code}
-use Rattle.change_set.specs.State.{State}
-use Rattle.change_set.specs.SoundState.{IsSoundState}
+use Rattle.machine_form.specs.State.{State}
+use Rattle.machine_form.specs.SoundState.{IsSoundState}
 
 -- the state is sound, and its input holds bytes
 pub record IsRunning (code : Code) (s : State) : Type 0 where

@@ -1,14 +1,14 @@
 //! The writes of a change, and the frame of a call.
 ghost use Rattle.std.specs.Prelude.{◌≡◌, ◌<◌, ◌+◌, ◌^◌, length, replicate, None, OnOk, OnErr, IfOk, if◌then◌else◌};
 ghost use Rattle.code_form.specs.Places.{function_at, begins_at};
-ghost use Rattle.change_set.specs.State.{with_writes, with_bytes};
-ghost use Rattle.change_set.specs.After.{output_after};
+ghost use Rattle.machine_form.specs.State.{with_writes, with_bytes};
+ghost use Rattle.machine_form.specs.After.{output_after};
 
 use crate::reads::{first_place, function};
 use am_base::OutOfMemory;
 use am_lists::{Bytes, Items};
-use change_set::Frame;
 use code_form::Code;
+use machine_form::Frame;
 use std::alloc::Global;
 
 /// The registers after some writes, in order.

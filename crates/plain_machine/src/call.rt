@@ -1,10 +1,10 @@
 //! Calls of the code's functions, and returns.
 ghost use Rattle.std.specs.Prelude.{◌≡◌, ◌<◌, ◌^◌, [], length, IfOk, Some, None};
 ghost use Rattle.std.specs.Option.{option_map};
-ghost use Rattle.change_set.specs.Straight.{values_of, with_value};
-ghost use Rattle.change_set.specs.Calls as spec;
-ghost use Rattle.change_set.specs.Calls.{numbered, enter_change, return_change};
-ghost use Rattle.change_set.specs.Next.{ret_change};
+ghost use Rattle.machine_form.specs.Straight.{values_of, with_value};
+ghost use Rattle.machine_form.specs.Calls as spec;
+ghost use Rattle.machine_form.specs.Calls.{numbered, enter_change, return_change};
+ghost use Rattle.machine_form.specs.Next.{ret_change};
 
 use crate::reads::function;
 use crate::state::FlatState;

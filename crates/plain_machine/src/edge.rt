@@ -1,10 +1,10 @@
 //! Branches, and the `phi` that are read on an edge.
 ghost use Rattle.std.specs.Prelude.{◌≡◌, ◌<◌, ◌≤◌, ◌+◌, ◌^◌, length, All, IfOk, if◌then◌else◌, ◌==◌};
-ghost use Rattle.change_set.specs.After as after;
-ghost use Rattle.change_set.specs.After.{phis_in};
-ghost use Rattle.change_set.specs.Edge as spec;
-ghost use Rattle.change_set.specs.Edge.{entry_of, value_of_entry, jump_change, case_of};
-ghost use Rattle.change_set.specs.Straight.{value_of, with_value};
+ghost use Rattle.machine_form.specs.After as after;
+ghost use Rattle.machine_form.specs.After.{phis_in};
+ghost use Rattle.machine_form.specs.Edge as spec;
+ghost use Rattle.machine_form.specs.Edge.{entry_of, value_of_entry, jump_change, case_of};
+ghost use Rattle.machine_form.specs.Straight.{value_of, with_value};
 ghost use Rattle.plain_machine.specs.Spots.{AreSpots};
 ghost use Rattle.plain_machine.specs.Operands.{CanGo, CanGoFrom};
 

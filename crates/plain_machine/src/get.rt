@@ -3,8 +3,8 @@ ghost use Rattle.std.specs.Prelude.{◌≡◌, ◌<◌, ◌^◌, All, IfOk, map}
 ghost use Rattle.std.specs.Option.{option_map};
 ghost use Rattle.am_base.specs.Word.{word_of};
 ghost use Rattle.am_base.specs.declared.word.Width.TheVariants.{W64};
-ghost use Rattle.change_set.specs.Straight.{values_of, scaled_sum};
-ghost use Rattle.change_set.specs.Next.{get_change};
+ghost use Rattle.machine_form.specs.Straight.{values_of, scaled_sum};
+ghost use Rattle.machine_form.specs.Next.{get_change};
 ghost use Rattle.plain_machine.specs.Operands.{HoldsWord};
 
 use crate::state::FlatState;

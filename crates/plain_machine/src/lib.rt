@@ -7,6 +7,7 @@ mod edge;
 mod get;
 mod memory;
 mod outside;
+mod port;
 mod reads;
 mod run;
 mod spots;

@@ -1,8 +1,8 @@
 //! `alloca`, `load` and `store`.
 ghost use Rattle.std.specs.Prelude.{◌≡◌, ◌<◌, ◌≤◌, ◌+◌, ◌*◌, ◌^◌, length, IfOk};
 ghost use Rattle.code_form.specs.Layout as layout;
-ghost use Rattle.change_set.specs.Straight as spec;
-ghost use Rattle.change_set.specs.Straight.{number_of, bytes_from, value_of, with_value, load_change, store_change, alloca_change};
+ghost use Rattle.machine_form.specs.Straight as spec;
+ghost use Rattle.machine_form.specs.Straight.{number_of, bytes_from, value_of, with_value, load_change, store_change, alloca_change};
 ghost use Rattle.plain_machine.specs.Operands.{HasMemory, IsSmallAlignment};
 
 use crate::state::FlatState;

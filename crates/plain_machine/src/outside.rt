@@ -1,10 +1,9 @@
 //! Calls, and the four outside functions that every machine knows.
 ghost use Rattle.std.specs.Prelude.{◌≡◌, ◌<◌, ◌≤◌, [], ◌∷◌, length, IfOk};
-ghost use Rattle.change_set.specs.Straight.{value_of, values_of, with_value, end_change};
-ghost use Rattle.change_set.specs.Calls.{first_of, put_change, take_change, call_change};
-ghost use Rattle.change_set.specs.Next.{next_of};
+ghost use Rattle.machine_form.specs.Straight.{value_of, values_of, with_value, end_change};
+ghost use Rattle.machine_form.specs.Calls.{Answers, first_of, put_change, take_change, call_change};
+ghost use Rattle.machine_form.specs.Next.{next_of};
 ghost use Rattle.plain_machine.specs.Operands.{CanCall};
-ghost use Rattle.plain_machine.specs.Ports.{no_answers};
 ghost use Rattle.am_base.specs.declared.outcome.Ending.TheVariants.{Exit as Exited};
 ghost use Rattle.std.specs.Prelude.{slice_get};
 
@@ -64,7 +63,7 @@ fn exit(alloc: Global, s: &FlatState, a: Operand) -> Change
     ends(alloc, s, Ending::Exit(x))
 }
 
-/// A call of a function of the code or of an outside function.
+/// A call of a function of the code or of an outside function that isn't a port.
 pub fn call(
     alloc: Global,
     code: &Code,
@@ -74,7 +73,7 @@ pub fn call(
     args: &[Operand],
 ) -> Result<Change, OutOfMemory>
     requires { CanCall code.now callee args.now }
-    ensures { IfOk result (λ c. c ≡ with_value s.now (values_of s.now args.now) (λ xs. call_change code.now no_answers s.now r callee xs)) }
+    ensures { (answers : Answers) → IfOk result (λ c. c ≡ with_value s.now (values_of s.now args.now) (λ xs. call_change code.now answers s.now r callee xs)) }
 {
     match (callee, args) {
         (Callee::Func(f), _) => enter(alloc, code, s, f, args),

@@ -2,16 +2,16 @@
 ghost use Rattle.std.specs.Prelude.{◌≡◌, ◌<◌, ◌≤◌, ◌-◌, ◌^◌, ◌++◌, length, All, IfOk, replicate, None};
 ghost use Rattle.code_form.specs.Sound.{IsSound};
 ghost use Rattle.code_form.specs.Fit.{FitsCase};
-ghost use Rattle.change_set.specs.State.{with_writes};
-ghost use Rattle.change_set.specs.Calls.{numbered};
-ghost use Rattle.change_set.specs.Start.{opening_frame, start_of, zeros};
+ghost use Rattle.machine_form.specs.State.{with_writes};
+ghost use Rattle.machine_form.specs.Calls.{numbered};
+ghost use Rattle.machine_form.specs.Start.{opening_frame, start_of, zeros};
 
 use crate::reads::{first_place, function};
 use crate::state::FlatState;
 use am_base::OutOfMemory;
 use am_lists::Items;
-use change_set::Frame;
 use code_form::{Case, Code};
+use machine_form::Frame;
 use std::alloc::Global;
 
 /// What a list of bytes holds are bytes.

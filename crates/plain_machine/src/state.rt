@@ -1,10 +1,10 @@
 ghost use Rattle.std.specs.Prelude.{◌≡◌, ◌<◌, ◌+◌, ◌^◌, [], length, slice_get, reverse, is_some, OnOk, OnErr};
-ghost use Rattle.change_set.specs.State.{register, words_of};
-ghost use Rattle.change_set.specs.Straight.{value_of};
-ghost use Rattle.change_set.specs.After as spec;
-ghost use Rattle.change_set.specs.After.{after_change};
-ghost use Rattle.change_set.specs.Start.{opening_of};
-ghost use Rattle.change_set.specs.Machine.{outcome_at};
+ghost use Rattle.machine_form.specs.State.{register, registers_in_use};
+ghost use Rattle.machine_form.specs.Straight.{value_of};
+ghost use Rattle.machine_form.specs.After as spec;
+ghost use Rattle.machine_form.specs.After.{after_change};
+ghost use Rattle.machine_form.specs.Start.{opening_of};
+ghost use Rattle.machine_form.specs.Machine.{outcome_at};
 ghost use Rattle.plain_machine.specs.Plain.{IsQuiet, CanApply};
 ghost use Rattle.plain_machine.specs.Spots.{AreSpots};
 
@@ -14,8 +14,9 @@ use crate::reads::result_register;
 use crate::spots::Spot;
 use am_base::{Ending, OutOfMemory, Outcome};
 use am_lists::{Bytes, Items};
-use change_set::{Change, Control, Frame};
+use change_set::{Change, Control};
 use code_form::{Code, Operand};
+use machine_form::Frame;
 use std::alloc::Global;
 use std::marker::Model;
 use std::mem;
@@ -38,7 +39,7 @@ pub struct FlatState {
 
 impl Model for FlatState {
     ghost use Rattle.std.specs.Prelude.{◌≡◌, ◌+◌, length, reverse, sum_by};
-    ghost use Rattle.change_set.specs.State.{State};
+    ghost use Rattle.machine_form.specs.State.{State};
 
     ghost Value = { State };
 
@@ -133,7 +134,7 @@ impl FlatState {
 
     /// How many registers all frames have.
     pub fn words(&self) -> u32
-        ensures { result ≡ words_of self.now }
+        ensures { result ≡ registers_in_use self.now }
     {
         self.words
     }
@@ -234,7 +235,7 @@ impl FlatState {
         requires quiet { IsQuiet c }
         requires frame { frame ≡ spec.frame_of_call code.now self.old f c.writes }
         requires place { self.old.running.place + 1 < 2 ^ 32 }
-        requires words { words_of self.old + length frame.registers < 2 ^ 32 }
+        requires words { registers_in_use self.old + length frame.registers < 2 ^ 32 }
         ensures ok { OnOk result (self.new ≡ after_change code.now self.old c) }
         ensures err { OnErr result (self.new ≡ self.old) }
     {

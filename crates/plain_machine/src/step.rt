@@ -1,9 +1,9 @@
 //! The change of each instruction.
 ghost use Rattle.std.specs.Prelude.{◌≡◌, IfOk};
-ghost use Rattle.change_set.specs.Straight.{write_of, end_change, trap_change, word_change};
-ghost use Rattle.change_set.specs.Next.{bin_change, cmp_change, select_change, cast_change, freeze_change, next_of};
+ghost use Rattle.machine_form.specs.Straight.{write_of, end_change, trap_change, word_change};
+ghost use Rattle.machine_form.specs.Next.{bin_change, cmp_change, select_change, cast_change, freeze_change, next_of};
 ghost use Rattle.plain_machine.specs.Operands.{HoldsWord, CanStep};
-ghost use Rattle.plain_machine.specs.Ports.{no_answers};
+ghost use Rattle.machine_form.specs.Calls.{Answers};
 ghost use Rattle.plain_machine.specs.Spots.{AreSpots};
 
 use crate::call::ret;
@@ -160,7 +160,7 @@ fn freeze(alloc: Global, s: &FlatState, r: Option<u32>, a: Operand) -> Result<Ch
     gives(alloc, s, r, x)
 }
 
-/// The change that an instruction makes. `r` is the register of its place.
+/// The change that an instruction makes that calls no port. `r` is the register of its place.
 pub fn step(
     alloc: Global,
     code: &Code,
@@ -171,7 +171,7 @@ pub fn step(
 ) -> Result<Change, OutOfMemory>
     requires spots { AreSpots code.now spots.now }
     requires operands { CanStep code.now s.now i.now }
-    ensures { IfOk result (λ change. change ≡ next_of code.now no_answers s.now r i.now) }
+    ensures { (answers : Answers) → IfOk result (λ change. change ≡ next_of code.now answers s.now r i.now) }
 {
     match i {
         Instr::Bin(op, w, a, b) => bin(alloc, s, r, *op, *w, *a, *b),

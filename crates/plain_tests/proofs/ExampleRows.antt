@@ -5,9 +5,9 @@ use Rattle.am_base.specs.declared.outcome.Ending.TheVariants.{Return, Budget}
 use Rattle.am_base.specs.declared.outcome.Outcome.{Outcome}
 use Rattle.code_form.specs.Variant.{Table}
 use Rattle.traces.specs.Trace.{Trial, trace, changes_from}
-use Rattle.change_set.specs.declared.change.Change.{Change}
-use Rattle.change_set.specs.State.{State}
-use Rattle.change_set.specs.Machine.{trial_of, outcome_of}
+use Rattle.machine_form.specs.declared.change.Change.{Change}
+use Rattle.machine_form.specs.State.{State}
+use Rattle.machine_form.specs.Machine.{case_trial, outcome_of}
 use Rattle.plain_machine.specs.Ports.{no_answers}
 use Rattle.plain_tests.specs.Example.{first_instr, example}
 use Rattle.plain_tests.specs.Codes.{case_of}
@@ -18,13 +18,14 @@ table = record { chosen = None ∷ Some (0, 1) ∷ []; mentioned = (first_instr 
 
 module _ (memory : List ℕ) where
   abbrev run : ℕ → ℕ → ℕ → Trial State Change
-  run a b budget = trial_of (example memory) table no_answers (case_of 0 (a ∷ b ∷ []) [] budget)
+  run a b budget = case_trial (example memory) table no_answers (case_of 0 (a ∷ b ∷ []) [] budget)
 
   abbrev returns : ℕ → Outcome
   returns word = record { ending = Return (Some word); output = [] }
 
   -- 2 + 2 isn't above 10, and neither is 2 - 2
-  two_and_two : (outcome_of (run 2 2 9) 0 ≡ returns 0) × (length (trace (run 2 2 9) 0) ≡ 4) × (outcome_of (run 2 2 9) 1 ≡ returns 0) × (length (trace (run 2 2 9) 1) ≡ 4)
+  two_and_two : (outcome_of (run 2 2 9) 0 ≡ returns 0) × (length (trace (run 2 2 9) 0) ≡ 4) × (outcome_of (run 2 2 9) 1 ≡ returns 0)
+      × (length (trace (run 2 2 9) 1) ≡ 4)
   unfolding changes_from table
   two_and_two = (refl, refl, refl, refl)
 

@@ -8,8 +8,8 @@ use Rattle.code_form.specs.Variant.{Table, replacements_at}
 use Rattle.code_form.specs.Fit.{FitsPlace, FitsTable, FitsCase}
 use Rattle.plain_tests.specs.Codes.{IsCode}
 use Rattle.plain_tests.specs.Fitting.{PassesAsSound, PassesAt}
-use Rattle.code_decided.proofs.Decide.{found, none_is}
-use Rattle.code_decided.proofs.SoundCode.{HasItsBytes, sound_code, fits_place}
+use Rattle.code_decide.proofs.Decide.{found, none_is}
+use Rattle.code_decide.proofs.SoundCode.{HasItsBytes, sound_code, fits_place}
 
 module _ (of : List ℕ → Code) (code : Code) (is : IsCode of code) where
   bytes : HasItsBytes (of code.memory)

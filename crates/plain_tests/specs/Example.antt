@@ -28,7 +28,8 @@ example_func = func_of 102 (Int W32 ∷ Int W32 ∷ []) (Some (Int W32)) (Int W3
 -- the code, with an operation in the place of `add`
 abbrev pub example_with : BinOp → List ℕ → Code
 example_with op =
-    code_of (example_func ∷ []) (first_instr op ∷ Cmp Sgt W32 (Reg 2) (Word 10) ∷ Select (Reg 3) (Word 1) (Word 0) ∷ Ret (Some (Reg 4)) ∷ []) (Some 2 ∷ Some 3 ∷ Some 4 ∷ None ∷ [])
+    code_of (example_func ∷ []) (first_instr op ∷ Cmp Sgt W32 (Reg 2) (Word 10) ∷ Select (Reg 3) (Word 1) (Word 0) ∷ Ret (Some (Reg 4)) ∷ []) (Some 2 ∷ Some 3
+    ∷ Some 4 ∷ None ∷ [])
 
 abbrev pub example : List ℕ → Code
 example = example_with Add

@@ -2,7 +2,7 @@
 use Rattle.std.specs.Prelude.{◌≡◌, ℕ, true, List, is_some}
 use Rattle.code_form.specs.declared.instr.Instr.{Instr}
 use Rattle.code_form.specs.declared.code.Code.{Code}
-use Rattle.code_decided.proofs.SoundCode.{HasItsBytes, sound_code, fits_place}
+use Rattle.code_decide.proofs.SoundCode.{HasItsBytes, sound_code, fits_place}
 
 -- whatever the opening bytes are, the code passes the test of soundness
 abbrev pub PassesAsSound : (List ℕ → Code) → Type 0

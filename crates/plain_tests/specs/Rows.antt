@@ -25,11 +25,13 @@ use Rattle.plain_tests.specs.Codes.{func_of, block_of, code_of}
 --       ret i32 %s2
 --     }
 abbrev pub sum_func : Func
-sum_func = func_of 115 (Int W32 ∷ []) (Some (Int W32)) (Int W32 ∷ Int W32 ∷ Int W32 ∷ Int W32 ∷ Int W32 ∷ Int W1 ∷ []) (block_of 0 1 ∷ block_of 1 6 ∷ block_of 7 1 ∷ [])
+sum_func = func_of 115 (Int W32 ∷ []) (Some (Int W32)) (Int W32 ∷ Int W32 ∷ Int W32 ∷ Int W32 ∷ Int W32 ∷ Int W1 ∷ []) (block_of 0 1 ∷ block_of 1 6
+    ∷ block_of 7 1 ∷ [])
 
 abbrev pub sum : List ℕ → Code
 sum = code_of (sum_func ∷ [])
-    (Jump 1 ∷ Phi ((0, Word 0) ∷ (1, Reg 4) ∷ []) ∷ Phi ((0, Word 0) ∷ (1, Reg 3) ∷ []) ∷ Bin Add W32 (Reg 2) (Reg 1) ∷ Bin Add W32 (Reg 1) (Word 1) ∷ Cmp Slt W32 (Reg 4) (Reg 0) ∷ Branch (Reg 5) 1 2
+    (Jump 1 ∷ Phi ((0, Word 0) ∷ (1, Reg 4) ∷ []) ∷ Phi ((0, Word 0) ∷ (1, Reg 3) ∷ []) ∷ Bin Add W32 (Reg 2) (Reg 1) ∷ Bin Add W32 (Reg 1) (Word 1)
+    ∷ Cmp Slt W32 (Reg 4) (Reg 0) ∷ Branch (Reg 5) 1 2
     ∷ Ret (Some (Reg 3)) ∷ []) (None ∷ Some 1 ∷ Some 2 ∷ Some 3 ∷ Some 4 ∷ Some 5 ∷ None ∷ None ∷ [])
 
 --     define i32 @r(i32 %n) {
@@ -79,6 +81,8 @@ mixed_funcs =
 
 abbrev pub mixed : List ℕ → Code
 mixed = code_of mixed_funcs
-    (Alloca 16 4 (Word 1) ∷ Get (Reg 1) 12 [] ∷ Get (Reg 2) 0 ((4, W32, Reg 0) ∷ []) ∷ Store W32 (Word 77) (Reg 3) ∷ Get (Reg 2) 18446744073709551608 [] ∷ Load W32 (Reg 4)
-    ∷ Call (CallFunc 1) (Reg 5 ∷ []) ∷ Switch W32 (Reg 6) 1 ((78, 2) ∷ []) ∷ Unreachable ∷ Ret (Some (Reg 6)) ∷ Bin Add W32 (Reg 0) (Word 1) ∷ Ret (Some (Reg 1)) ∷ [])
+    (Alloca 16 4 (Word 1) ∷ Get (Reg 1) 12 [] ∷ Get (Reg 2) 0 ((4, W32, Reg 0) ∷ []) ∷ Store W32 (Word 77) (Reg 3) ∷ Get (Reg 2) 18446744073709551608 []
+    ∷ Load W32 (Reg 4)
+    ∷ Call (CallFunc 1) (Reg 5 ∷ []) ∷ Switch W32 (Reg 6) 1 ((78, 2) ∷ []) ∷ Unreachable ∷ Ret (Some (Reg 6)) ∷ Bin Add W32 (Reg 0) (Word 1)
+    ∷ Ret (Some (Reg 1)) ∷ [])
     (Some 1 ∷ Some 2 ∷ Some 3 ∷ None ∷ Some 4 ∷ Some 5 ∷ Some 6 ∷ None ∷ None ∷ None ∷ Some 1 ∷ None ∷ [])

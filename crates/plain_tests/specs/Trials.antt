@@ -1,5 +1,6 @@
--- Ten functions of one block, a function with 65 registers, and a store among the constants, as codes.
+-- Eight functions of one block, a function with 65 registers, and a store among the constants, as codes.
 use Rattle.std.specs.Prelude.{ℕ, ◌+◌, List, [], ◌∷◌, ◌++◌, map, replicate, Option, Some, None}
+use Rattle.am_base.specs.declared.limits.TheConstants.{MEMORY_BYTES}
 use Rattle.am_base.specs.declared.word.Width.TheVariants.{W8, W16, W32, W64}
 use Rattle.am_base.specs.declared.word.BinOp.TheVariants.{Add, SDiv, Shl}
 use Rattle.am_base.specs.declared.word.Cast.TheVariants.{Trunc, ZExt, SExt, PtrToInt, IntToPtr}
@@ -22,14 +23,12 @@ abbrev pub funcs : List Func
 funcs =
     straight 103 [] (Some (Int W32)) (Ptr ∷ Ptr ∷ Int W32 ∷ []) 0 5
     ∷ straight 100 (Int W32 ∷ []) (Some (Int W32)) (Int W32 ∷ Int W32 ∷ []) 5 2
-    ∷ straight 119 (Int W64 ∷ []) (Some (Int W64)) (Int W64 ∷ Ptr ∷ Ptr ∷ Int W64 ∷ []) 7 5
-    ∷ straight 115 (Int W32 ∷ Int W32 ∷ []) (Some (Int W32)) (Int W32 ∷ Int W32 ∷ Int W32 ∷ []) 12 2
-    ∷ straight 112 [] None (Int W32 ∷ []) 14 2
-    ∷ straight 109 [] None (Ptr ∷ []) 16 2
-    ∷ straight 99 (Int W32 ∷ []) (Some (Int W64)) (Int W32 ∷ Int W32 ∷ Int W8 ∷ Int W64 ∷ Ptr ∷ Int W64 ∷ []) 18 6
-    ∷ straight 101 [] None (Int W32 ∷ []) 24 3
-    ∷ straight 108 [] (Some (Int W32)) (Ptr ∷ Ptr ∷ Int W16 ∷ Int W32 ∷ []) 27 6
-    ∷ straight 116 (Int W32 ∷ []) (Some (Int W32)) (Int W32 ∷ Ptr ∷ Ptr ∷ Ptr ∷ Int W32 ∷ []) 33 6
+    ∷ straight 115 (Int W32 ∷ Int W32 ∷ []) (Some (Int W32)) (Int W32 ∷ Int W32 ∷ Int W32 ∷ []) 7 2
+    ∷ straight 112 [] None (Int W32 ∷ []) 9 2
+    ∷ straight 109 [] None (Ptr ∷ []) 11 2
+    ∷ straight 99 (Int W32 ∷ []) (Some (Int W64)) (Int W32 ∷ Int W32 ∷ Int W8 ∷ Int W64 ∷ Ptr ∷ Int W64 ∷ []) 13 6
+    ∷ straight 101 [] None (Int W32 ∷ []) 19 3
+    ∷ straight 108 [] (Some (Int W32)) (Ptr ∷ Ptr ∷ Int W16 ∷ Int W32 ∷ []) 22 6
     ∷ []
 
 --     define i32 @g() {
@@ -48,16 +47,6 @@ stores_zero = Alloca 4 4 (Word 1) ∷ Alloca 4 4 (Word 1) ∷ Store W32 (Word 0)
 --     }
 abbrev pub divides : List Instr
 divides = Bin SDiv W32 (Reg 0) (Word 2) ∷ Ret (Some (Reg 1)) ∷ []
-
---     define i64 @w(i64 %v) {
---       %a = alloca [1020 x i8]
---       %p = alloca [16 x i8]
---       store i64 %v, ptr %p
---       %x = load i64, ptr %p
---       ret i64 %x
---     }
-abbrev pub crosses_a_page : List Instr
-crosses_a_page = Alloca 1020 1 (Word 1) ∷ Alloca 16 1 (Word 1) ∷ Store W64 (Reg 0) (Reg 2) ∷ Load W64 (Reg 2) ∷ Ret (Some (Reg 3)) ∷ []
 
 --     define i32 @s(i32 %a, i32 %n) {
 --       %x = shl i32 %a, %n
@@ -78,7 +67,7 @@ puts = Call PutChar (Word 65 ∷ []) ∷ Ret None ∷ []
 --       ret void
 --     }
 abbrev pub takes_all : List Instr
-takes_all = Alloca 1048576 1 (Word 1) ∷ Ret None ∷ []
+takes_all = Alloca MEMORY_BYTES 1 (Word 1) ∷ Ret None ∷ []
 
 --     define i64 @c(i32 %a) {
 --       %b = freeze i32 %a
@@ -89,7 +78,8 @@ takes_all = Alloca 1048576 1 (Word 1) ∷ Ret None ∷ []
 --       ret i64 %x
 --     }
 abbrev pub converts : List Instr
-converts = Freeze (Reg 0) ∷ Cast Trunc W32 W8 (Reg 1) ∷ Cast SExt W8 W64 (Reg 2) ∷ Cast IntToPtr W64 W64 (Reg 3) ∷ Cast PtrToInt W64 W64 (Reg 4) ∷ Ret (Some (Reg 5)) ∷ []
+converts = Freeze (Reg 0) ∷ Cast Trunc W32 W8 (Reg 1) ∷ Cast SExt W8 W64 (Reg 2) ∷ Cast IntToPtr W64 W64 (Reg 3) ∷ Cast PtrToInt W64 W64 (Reg 4)
+    ∷ Ret (Some (Reg 5)) ∷ []
 
 --     define void @e() {
 --       %c = call i32 @getchar()
@@ -108,38 +98,24 @@ exits = Call GetChar [] ∷ Call Exit (Reg 0 ∷ []) ∷ Unreachable ∷ []
 --       ret i32 %y
 --     }
 abbrev pub loads_inside : List Instr
-loads_inside = Alloca 8 8 (Word 1) ∷ Store W64 (Word 578437695752307201) (Reg 0) ∷ Get (Reg 0) 1 [] ∷ Load W16 (Reg 1) ∷ Cast ZExt W16 W32 (Reg 2) ∷ Ret (Some (Reg 3)) ∷ []
-
---     %T = type { i8, [2 x i32] }
---     define i32 @t(i32 %k) {
---       %p = alloca %T
---       %q = getelementptr %T, ptr %p, i64 1, i32 1, i32 %k
---       store i32 77, ptr %q
---       %r = getelementptr %T, ptr %p, i64 0, i32 1, i64 1
---       %x = load i32, ptr %r
---       ret i32 %x
---     }
-abbrev pub goes_into_a_struct : List Instr
-goes_into_a_struct =
-    Alloca 12 4 (Word 1) ∷ Get (Reg 1) 16 ((4, W32, Reg 0) ∷ []) ∷ Store W32 (Word 77) (Reg 2) ∷ Get (Reg 1) 8 [] ∷ Load W32 (Reg 3) ∷ Ret (Some (Reg 4)) ∷ []
+loads_inside = Alloca 8 8 (Word 1) ∷ Store W64 (Word 578437695752307201) (Reg 0) ∷ Get (Reg 0) 1 [] ∷ Load W16 (Reg 1) ∷ Cast ZExt W16 W32 (Reg 2)
+    ∷ Ret (Some (Reg 3)) ∷ []
 
 abbrev pub results : List (Option ℕ)
 results =
     Some 0 ∷ Some 1 ∷ None ∷ Some 2 ∷ None
     ∷ Some 1 ∷ None
-    ∷ Some 1 ∷ Some 2 ∷ None ∷ Some 3 ∷ None
     ∷ Some 2 ∷ None
     ∷ Some 0 ∷ None
     ∷ Some 0 ∷ None
     ∷ Some 1 ∷ Some 2 ∷ Some 3 ∷ Some 4 ∷ Some 5 ∷ None
     ∷ Some 0 ∷ None ∷ None
     ∷ Some 0 ∷ None ∷ Some 1 ∷ Some 2 ∷ Some 3 ∷ None
-    ∷ Some 1 ∷ Some 2 ∷ None ∷ Some 3 ∷ Some 4 ∷ None
     ∷ []
 
 -- the code of all of them
 abbrev pub trials : List ℕ → Code
-trials = code_of funcs (stores_zero ++ (divides ++ (crosses_a_page ++ (shifts ++ (puts ++ (takes_all ++ (converts ++ (exits ++ (loads_inside ++ goes_into_a_struct))))))))) results
+trials = code_of funcs (stores_zero ++ (divides ++ (shifts ++ (puts ++ (takes_all ++ (converts ++ (exits ++ loads_inside))))))) results
 
 --     define i32 @q(i32 %n) {
 --       %x1 = add i32 %n, 1
@@ -155,7 +131,8 @@ abbrev pub adds_one : Instr
 adds_one = Bin Add W32 (Reg 0) (Word 1)
 
 abbrev pub deep : List ℕ → Code
-deep = code_of (deep_func ∷ []) (replicate 63 adds_one ++ (Call (CallFunc 0) (Reg 0 ∷ []) ∷ Ret (Some (Reg 64)) ∷ [])) (map (λ k. Some (k + 1)) (below 64) ++ (None ∷ []))
+deep = code_of (deep_func ∷ []) (replicate 63 adds_one ++ (Call (CallFunc 0) (Reg 0 ∷ []) ∷ Ret (Some (Reg 64)) ∷ [])) (map (λ k. Some (k + 1)) (below 64)
+    ++ (None ∷ []))
 
 --     @k = constant i64 0
 --     @v = global i64 0

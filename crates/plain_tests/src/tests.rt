@@ -1,19 +1,23 @@
+//! What the tests share: how they make codes, run them, and compare outcomes.
+
+ghost use Rattle.am_base.specs.declared.limits.TheConstants.{MAX_FUNCTION_REGISTERS};
 ghost use Rattle.code_form.specs.Fit.{FitsCase, FitsPlace, FitsTable};
 ghost use Rattle.code_form.specs.Sound.{IsSound};
 ghost use Rattle.code_form.specs.Variant.{mutants_of};
 ghost use Rattle.plain_tests.specs.Codes as form;
 ghost use Rattle.plain_tests.specs.Codes.{case_of, func_of};
-ghost use Rattle.std.specs.Prelude.{◌<◌, ◌≡◌, IfOk, length};
+ghost use Rattle.std.specs.Prelude.{◌<◌, ◌≤◌, ◌≡◌, IfOk, length};
 
 mod example;
 mod moves;
 mod rows;
 mod trials;
 
-use am_base::{Ending, OutOfMemory, Width};
+use am_base::{Ending, FIRST_ADDRESS, OutOfMemory, Width};
 use am_lists::Items;
 use code_form::{Block, Case, Code, Func, Instr, Operand, Place, TyScalar, Variants};
 use plain_machine::{Alone, run_alone};
+use ports::Port;
 use std::alloc::Global;
 use std::process::Abort;
 
@@ -65,7 +69,7 @@ pub fn func(
     types: &[TyScalar],
     blocks: &[Block],
 ) -> Result<Func, OutOfMemory>
-    requires { length types.now < 65536 }
+    requires { length types.now ≤ MAX_FUNCTION_REGISTERS }
     ensures { IfOk result (λ f. f ≡ func_of name params.now result_type types.now blocks.now) }
 {
     Ok(Func {
@@ -92,9 +96,9 @@ pub fn code_of(
         funcs,
         instrs,
         results,
-        memory: Items::from_vec(vec![in alloc; 0; 1024]?),
-        const_end: 1024,
-        stack_base: 1024,
+        memory: Items::from_vec(vec![in alloc; 0; FIRST_ADDRESS as usize]?),
+        const_end: FIRST_ADDRESS,
+        stack_base: FIRST_ADDRESS,
         signs: Items::new(alloc),
     })
 }
@@ -121,10 +125,11 @@ fn run(
         input: Items::from_slice(alloc, input)?,
         budget,
     };
-    run_alone(alloc, code, variants, m, &case)
+    let mut ports: Vec<Box<dyn Port>> = Vec::new(alloc);
+    run_alone(alloc, code, variants, m, &case, ports.as_mut_slice())
 }
 
-/// The run of a function of a code as it stands.
+/// The run of a function of a code as written.
 pub fn run_original(
     alloc: Global,
     code: &Code,

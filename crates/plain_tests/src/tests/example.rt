@@ -34,7 +34,8 @@ fn example(alloc: Global) -> Result<Code, OutOfMemory>
     )
 }
 
-/// How a mutant's run on two arguments ends, and its length. Mutant 1 has `sub` in the place of `add`.
+/// How a mutant's run on two arguments ends, and its length. Mutant 1 has `sub` in the place of
+/// `add`.
 fn ends(alloc: Global, m: u32, args: (u64, u64), budget: u64) -> Result<(Ending, u64), OutOfMemory>
     requires mutant { m < 2 }
     requires first { args.0 < 2 ^ 32 }

@@ -1,4 +1,6 @@
-//! Whole runs: a loop with `phi`, a recursion, output without end, and memory with a call and a `switch`.
+//! Whole runs: a loop with `phi`, a recursion, output without end, and memory with a call and a
+//! `switch`.
+
 ghost use Rattle.plain_tests.specs.Codes.{IsCode};
 ghost use Rattle.plain_tests.specs.Rows as row;
 ghost use Rattle.plain_tests.specs.Rows.{mixed_funcs};
@@ -63,7 +65,7 @@ fn sum_ends(alloc: Global, m: u32, n: u64, budget: u64) -> Result<(Ending, u64, 
 fn sums_in_a_loop(rt: HostRuntime) -> Result<(), Fail> {
     let alloc = rt.alloc();
 
-    // 0 + 1 + 2; the counter that stands never gets to 3
+    // 0 + 1 + 2; a counter that gets no greater never is 3
     let sum = Ending::Return(Some(3));
     assert_eq!(rt; sum_ends(alloc, 0, 3, 20)?, (sum, 14, 0));
     assert_eq!(rt; sum_ends(alloc, 1, 3, 20)?, (Ending::Budget, 20, 0));

@@ -1,10 +1,13 @@
-//! Ten functions of one block as they stand and with replacements, frames of many registers, and a store among the constants.
+//! Eight functions of one block, each as written and with replacements, frames of many registers,
+//! and a store among the constants.
+
 ghost use Rattle.code_form.specs.Fit.{AreArguments};
 ghost use Rattle.code_form.specs.Places.{function_at};
 ghost use Rattle.plain_tests.specs.Codes.{IsCode};
 ghost use Rattle.plain_tests.specs.Fitting.{PassesAt};
+ghost use Rattle.am_base.specs.declared.limits.TheConstants.{MAX_FUNCTION_REGISTERS, MAX_INPUT_BYTES};
 ghost use Rattle.plain_tests.specs.Trials as trial;
-ghost use Rattle.std.specs.Prelude.{[], length, ◌∷◌, ◌<◌, ◌≤◌, ◌≡◌, ◌++◌, IfOk};
+ghost use Rattle.std.specs.Prelude.{[], length, ◌∷◌, ◌<◌, ◌≤◌, ◌≡◌, ◌^◌, ◌++◌, IfOk};
 
 use crate::tests::{
     BYTE, INT, LONG, PTR, W, block, code_of, expect, expect_word, func, reg, run_original,
@@ -28,7 +31,7 @@ fn straight(
     first: u32,
     len: u32,
 ) -> Result<Func, OutOfMemory>
-    requires { length types.now < 65536 }
+    requires { length types.now ≤ MAX_FUNCTION_REGISTERS }
     ensures { IfOk result (λ f. f ≡ trial.straight name params.now result_type types.now first len) }
 {
     func(
@@ -47,26 +50,15 @@ fn funcs(alloc: Global) -> Result<Items<Func>, OutOfMemory>
     let mut all = Items::new(alloc);
     all.push(straight(alloc, b'g', &[], Some(INT), &[PTR, PTR, INT], 0, 5)?)?;
     all.push(straight(alloc, b'd', &[INT], Some(INT), &[INT, INT], 5, 2)?)?;
-    all.push(straight(
-        alloc,
-        b'w',
-        &[LONG],
-        Some(LONG),
-        &[LONG, PTR, PTR, LONG],
-        7,
-        5,
-    )?)?;
-    all.push(straight(alloc, b's', &[INT, INT], Some(INT), &[INT, INT, INT], 12, 2)?)?;
-    all.push(straight(alloc, b'p', &[], None, &[INT], 14, 2)?)?;
-    all.push(straight(alloc, b'm', &[], None, &[PTR], 16, 2)?)?;
+    all.push(straight(alloc, b's', &[INT, INT], Some(INT), &[INT, INT, INT], 7, 2)?)?;
+    all.push(straight(alloc, b'p', &[], None, &[INT], 9, 2)?)?;
+    all.push(straight(alloc, b'm', &[], None, &[PTR], 11, 2)?)?;
     let types = [INT, INT, BYTE, LONG, PTR, LONG];
-    all.push(straight(alloc, b'c', &[INT], Some(LONG), &types, 18, 6)?)?;
-    all.push(straight(alloc, b'e', &[], None, &[INT], 24, 3)?)?;
+    all.push(straight(alloc, b'c', &[INT], Some(LONG), &types, 13, 6)?)?;
+    all.push(straight(alloc, b'e', &[], None, &[INT], 19, 3)?)?;
     let half = TyScalar::Int(Width::W16);
     let types = [PTR, PTR, half, INT];
-    all.push(straight(alloc, b'l', &[], Some(INT), &types, 27, 6)?)?;
-    let types = [INT, PTR, PTR, PTR, INT];
-    all.push(straight(alloc, b't', &[INT], Some(INT), &types, 33, 6)?)?;
+    all.push(straight(alloc, b'l', &[], Some(INT), &types, 22, 6)?)?;
     Ok(all)
 }
 
@@ -86,7 +78,7 @@ fn abort(alloc: Global) -> Instr
 }
 
 fn first_instrs(alloc: Global) -> Result<Items<Instr>, OutOfMemory>
-    ensures { IfOk result (λ is. is ≡ trial.stores_zero ++ (trial.divides ++ (trial.crosses_a_page ++ (trial.shifts ++ trial.puts)))) }
+    ensures { IfOk result (λ is. is ≡ trial.stores_zero ++ (trial.divides ++ (trial.shifts ++ trial.puts))) }
 {
     let put = put(alloc, 65)?;
     Ok(Items::from_vec(vec![in alloc;
@@ -97,11 +89,6 @@ fn first_instrs(alloc: Global) -> Result<Items<Instr>, OutOfMemory>
         Instr::Ret(Some(reg(2))),
         Instr::Bin(BinOp::SDiv, W, reg(0), word(2)),
         Instr::Ret(Some(reg(1))),
-        Instr::Alloca(1020, 1, word(1)),
-        Instr::Alloca(16, 1, word(1)),
-        Instr::Store(Width::W64, reg(0), reg(2)),
-        Instr::Load(Width::W64, reg(2)),
-        Instr::Ret(Some(reg(3))),
         Instr::Bin(BinOp::Shl, W, reg(0), reg(1)),
         Instr::Ret(Some(reg(2))),
         put,
@@ -110,11 +97,9 @@ fn first_instrs(alloc: Global) -> Result<Items<Instr>, OutOfMemory>
 }
 
 fn later_instrs(alloc: Global) -> Result<Items<Instr>, OutOfMemory>
-    ensures { IfOk result (λ is. is ≡ trial.takes_all ++ (trial.converts ++ (trial.exits ++ (trial.loads_inside ++ trial.goes_into_a_struct)))) }
+    ensures { IfOk result (λ is. is ≡ trial.takes_all ++ (trial.converts ++ (trial.exits ++ trial.loads_inside))) }
 {
     let get = Instr::Call(Callee::GetChar, Items::new(alloc));
-    let scaled = Items::from_slice(alloc, &[(4, W, reg(0))])?;
-    let into = Instr::Get(reg(1), 16, scaled);
     let exit = Instr::Call(Callee::Exit, Items::from_slice(alloc, &[reg(0)])?);
     Ok(Items::from_vec(vec![in alloc;
         Instr::Alloca(1_048_576, 1, word(1)),
@@ -134,12 +119,6 @@ fn later_instrs(alloc: Global) -> Result<Items<Instr>, OutOfMemory>
         Instr::Load(Width::W16, reg(1)),
         Instr::Cast(Cast::ZExt, Width::W16, W, reg(2)),
         Instr::Ret(Some(reg(3))),
-        Instr::Alloca(12, 4, word(1)),
-        into,
-        Instr::Store(W, word(77), reg(2)),
-        Instr::Get(reg(1), 8, Items::new(alloc)),
-        Instr::Load(W, reg(3)),
-        Instr::Ret(Some(reg(4))),
     ]?))
 }
 
@@ -148,12 +127,10 @@ fn results(alloc: Global) -> Result<Items<Option<u32>>, OutOfMemory>
 {
     let mut all = Items::from_slice(alloc, &[Some(0), Some(1), None, Some(2), None])?;
     all.extend(&[Some(1), None])?;
-    all.extend(&[Some(1), Some(2), None, Some(3), None])?;
     all.extend(&[Some(2), None, Some(0), None, Some(0), None])?;
     all.extend(&[Some(1), Some(2), Some(3), Some(4), Some(5), None])?;
     all.extend(&[Some(0), None, None])?;
     all.extend(&[Some(0), None, Some(1), Some(2), Some(3), None])?;
-    all.extend(&[Some(1), Some(2), None, Some(3), Some(4), None])?;
     Ok(all)
 }
 
@@ -165,11 +142,11 @@ fn trials(alloc: Global) -> Result<Code, OutOfMemory>
     code_of(alloc, funcs(alloc)?, instrs, results(alloc)?)
 }
 
-/// The run of a function of the trials as it stands.
+/// The run of a function of the trials as written.
 fn original(alloc: Global, function: u32, args: &[u64], input: &[u8]) -> Result<Alone, OutOfMemory>
-    requires defined { function < 10 }
+    requires defined { function < 8 }
     requires args { AreArguments (function_at (trial.trials []) function).params args.now }
-    requires input { length input.now ≤ 65536 }
+    requires input { length input.now ≤ MAX_INPUT_BYTES }
 {
     let code = trials(alloc)?;
     run_original(alloc, &code, function, args, input, 1_000_000)
@@ -184,9 +161,9 @@ fn mutated(
     args: &[u64],
     input: &[u8],
 ) -> Result<Alone, OutOfMemory>
-    requires defined { function < 10 }
+    requires defined { function < 8 }
     requires args { AreArguments (function_at (trial.trials []) function).params args.now }
-    requires input { length input.now ≤ 65536 }
+    requires input { length input.now ≤ MAX_INPUT_BYTES }
     requires fits { PassesAt trial.trials place with }
 {
     let code = trials(alloc)?;
@@ -218,21 +195,6 @@ fn divisions(rt: HostRuntime) -> Result<(), Fail> {
     Ok(())
 }
 
-#[test]
-fn stores_across_pages(rt: HostRuntime) -> Result<(), Fail> {
-    let alloc = rt.alloc();
-    let ones = [0xffff_ffff_ffff_ffff];
-    expect_word(
-        &rt,
-        original(alloc, 2, &ones, &[])?,
-        0xffff_ffff_ffff_ffff,
-        5,
-    );
-    let with = Instr::Store(Width::W64, Operand::Word(0), Operand::Reg(2));
-    expect_word(&rt, mutated(alloc, 9, with, 2, &ones, &[])?, 0, 5);
-    Ok(())
-}
-
 /// Asserts what the three shifts give, the left one first.
 fn expect_shifts(
     rt: &impl Abort,
@@ -241,14 +203,14 @@ fn expect_shifts(
     n: u64,
     words: (u64, u64, u64),
 ) -> Result<(), Fail>
-    requires value { a < 4294967296 }
-    requires count { n < 4294967296 }
+    requires value { a < 2 ^ 32 }
+    requires count { n < 2 ^ 32 }
 {
-    expect_word(rt, original(alloc, 3, &[a, n], &[])?, words.0, 2);
+    expect_word(rt, original(alloc, 2, &[a, n], &[])?, words.0, 2);
     let with = Instr::Bin(BinOp::LShr, W, Operand::Reg(0), Operand::Reg(1));
-    expect_word(rt, mutated(alloc, 12, with, 3, &[a, n], &[])?, words.1, 2);
+    expect_word(rt, mutated(alloc, 7, with, 2, &[a, n], &[])?, words.1, 2);
     let with = Instr::Bin(BinOp::AShr, W, Operand::Reg(0), Operand::Reg(1));
-    expect_word(rt, mutated(alloc, 12, with, 3, &[a, n], &[])?, words.2, 2);
+    expect_word(rt, mutated(alloc, 7, with, 2, &[a, n], &[])?, words.2, 2);
     Ok(())
 }
 
@@ -266,9 +228,9 @@ fn shifts(rt: HostRuntime) -> Result<(), Fail> {
 fn output(rt: HostRuntime) -> Result<(), Fail> {
     let alloc = rt.alloc();
     let done = Ending::Return(None);
-    expect(&rt, original(alloc, 4, &[], &[])?, done, 2, &[65]);
+    expect(&rt, original(alloc, 3, &[], &[])?, done, 2, &[65]);
     let with = put(alloc, 66)?;
-    expect(&rt, mutated(alloc, 14, with, 4, &[], &[])?, done, 2, &[66]);
+    expect(&rt, mutated(alloc, 9, with, 3, &[], &[])?, done, 2, &[66]);
     Ok(())
 }
 
@@ -276,9 +238,9 @@ fn output(rt: HostRuntime) -> Result<(), Fail> {
 fn takes_and_converts(rt: HostRuntime) -> Result<(), Fail> {
     let alloc = rt.alloc();
     let full = Ending::Trap(Trap::MemoryFull);
-    expect(&rt, original(alloc, 5, &[], &[])?, full, 1, &[]);
+    expect(&rt, original(alloc, 4, &[], &[])?, full, 1, &[]);
     let low = 0xffff_ffff_ffff_ff80;
-    expect_word(&rt, original(alloc, 6, &[0x180], &[])?, low, 6);
+    expect_word(&rt, original(alloc, 5, &[0x180], &[])?, low, 6);
     Ok(())
 }
 
@@ -287,111 +249,22 @@ fn ends_from_outside(rt: HostRuntime) -> Result<(), Fail> {
     let alloc = rt.alloc();
     // a byte of the input, and -1 where there is none
     let byte = Ending::Exit(7);
-    expect(&rt, original(alloc, 7, &[], &[7])?, byte, 2, &[]);
+    expect(&rt, original(alloc, 6, &[], &[7])?, byte, 2, &[]);
     let none = Ending::Exit(0xffff_ffff);
-    expect(&rt, original(alloc, 7, &[], &[])?, none, 2, &[]);
+    expect(&rt, original(alloc, 6, &[], &[])?, none, 2, &[]);
     let with = abort(alloc);
     let abort = Ending::Trap(Trap::Abort);
-    expect(&rt, mutated(alloc, 25, with, 7, &[], &[])?, abort, 2, &[]);
+    expect(&rt, mutated(alloc, 20, with, 6, &[], &[])?, abort, 2, &[]);
     Ok(())
 }
 
-#[test]
-fn reads_what_is_not_set(rt: HostRuntime) -> Result<(), Fail> {
-    let alloc = rt.alloc();
-    let with = Instr::Bin(BinOp::Shl, W, Operand::Reg(2), Operand::Reg(1));
-    let unset = Ending::Trap(Trap::UnsetRegister);
-    expect(
-        &rt,
-        mutated(alloc, 12, with, 3, &[1, 1], &[])?,
-        unset,
-        1,
-        &[],
-    );
-    Ok(())
-}
-
-/// The lowest byte stands first: stores of 16, 32 and 64 bits, and loads of 16 and 32. A store to a
-/// register that isn't set yet traps.
+/// The lowest byte comes first: a store of 64 or 32 bits, and a load of 16 bits one byte behind.
 #[test]
 fn bytes_of_words(rt: HostRuntime) -> Result<(), Fail> {
     let alloc = rt.alloc();
-    expect_word(&rt, original(alloc, 8, &[], &[])?, 0x0302, 6);
+    expect_word(&rt, original(alloc, 7, &[], &[])?, 0x0302, 6);
     let with = Instr::Store(W, Operand::Word(0xddcc_bbaa), Operand::Reg(0));
-    expect_word(&rt, mutated(alloc, 28, with, 8, &[], &[])?, 0xccbb, 6);
-    let with = Instr::Store(Width::W16, Operand::Word(0xbbaa), Operand::Reg(0));
-    expect_word(&rt, mutated(alloc, 28, with, 8, &[], &[])?, 0x00bb, 6);
-    let with = Instr::Store(Width::W8, Operand::Word(0xaa), Operand::Reg(1));
-    let unset = Ending::Trap(Trap::UnsetRegister);
-    expect(&rt, mutated(alloc, 28, with, 8, &[], &[])?, unset, 2, &[]);
-    let with = Instr::Store(
-        Width::W64,
-        Operand::Word(0x0807_0605_0403_0201),
-        Operand::Reg(0),
-    );
-    expect_word(&rt, mutated(alloc, 2, with, 0, &[], &[])?, 0x0403_0201, 5);
-    Ok(())
-}
-
-#[test]
-fn paths_into_structs(rt: HostRuntime) -> Result<(), Fail> {
-    let alloc = rt.alloc();
-    // two elements back from the second struct is the last element of the first
-    expect_word(&rt, original(alloc, 9, &[0xffff_fffe], &[])?, 77, 6);
-    // three back is the first one, which is not looked at
-    expect_word(&rt, original(alloc, 9, &[0xffff_fffd], &[])?, 0, 6);
-    // one back is past the first struct
-    let out = Ending::Trap(Trap::AddressRange);
-    expect(&rt, original(alloc, 9, &[0xffff_ffff], &[])?, out, 3, &[]);
-    Ok(())
-}
-
-#[test]
-fn other_operations(rt: HostRuntime) -> Result<(), Fail> {
-    let alloc = rt.alloc();
-    let least = [0x8000_0000];
-    let with = Instr::Bin(BinOp::Mul, W, Operand::Reg(0), Operand::Word(3));
-    expect_word(
-        &rt,
-        mutated(alloc, 5, with, 1, &least, &[])?,
-        0x8000_0000,
-        2,
-    );
-    let with = Instr::Bin(BinOp::UDiv, W, Operand::Reg(0), Operand::Word(2));
-    expect_word(
-        &rt,
-        mutated(alloc, 5, with, 1, &least, &[])?,
-        0x4000_0000,
-        2,
-    );
-    let with = Instr::Bin(BinOp::SRem, W, Operand::Reg(0), Operand::Word(3));
-    expect_word(
-        &rt,
-        mutated(alloc, 5, with, 1, &least, &[])?,
-        0xffff_fffe,
-        2,
-    );
-    let with = Instr::Bin(BinOp::SRem, W, Operand::Reg(0), Operand::Word(0xffff_ffff));
-    let over = Ending::Trap(Trap::DivideOverflow);
-    expect(&rt, mutated(alloc, 5, with, 1, &least, &[])?, over, 1, &[]);
-    let with = Instr::Bin(BinOp::URem, W, Operand::Reg(0), Operand::Word(3));
-    expect_word(&rt, mutated(alloc, 5, with, 1, &least, &[])?, 2, 2);
-    let with = Instr::Bin(BinOp::Xor, W, Operand::Reg(0), Operand::Word(0xffff_ffff));
-    expect_word(
-        &rt,
-        mutated(alloc, 5, with, 1, &least, &[])?,
-        0x7fff_ffff,
-        2,
-    );
-    Ok(())
-}
-
-#[test]
-fn bits_in_common(rt: HostRuntime) -> Result<(), Fail> {
-    let alloc = rt.alloc();
-    let with = Instr::Bin(BinOp::And, W, Operand::Reg(0), Operand::Word(0xc000_0000));
-    let ran = mutated(alloc, 5, with, 1, &[0xa000_0000], &[])?;
-    expect_word(&rt, ran, 0x8000_0000, 2);
+    expect_word(&rt, mutated(alloc, 23, with, 7, &[], &[])?, 0xccbb, 6);
     Ok(())
 }
 

@@ -1,5 +1,5 @@
 use Rattle.std.proofs.Common.{◌≡◌, drop}
-use Rattle.change_set.specs.State.{with_bytes}
+use Rattle.machine_form.specs.State.{with_bytes}
 use Rattle.plain_machine.proofs.apply.write_bytes.Given as goal
 
 abbrev pub invariant-loop-address : goal.invariant-loop-address

@@ -1,7 +1,7 @@
 use Rattle.std.proofs.Common.{◌≡◌, drop}
 use Rattle.std.specs.Option.{option_map}
-use Rattle.change_set.specs.Straight.{values_of}
-use Rattle.change_set.specs.Calls.{numbered}
+use Rattle.machine_form.specs.Straight.{values_of}
+use Rattle.machine_form.specs.Calls.{numbered}
 use Rattle.plain_machine.proofs.WriteSteps.{after_front}
 use Rattle.plain_machine.proofs.call.argument_writes.Given as goal
 

@@ -1,5 +1,5 @@
 use Rattle.std.proofs.Common.{◌≡◌, drop}
-use Rattle.change_set.specs.Edge.{case_of}
+use Rattle.machine_form.specs.Edge.{case_of}
 use Rattle.plain_machine.proofs.edge.case_block.Given as goal
 
 abbrev pub invariant-loop-case : goal.invariant-loop-case

@@ -1,5 +1,5 @@
 use Rattle.std.proofs.Common.{◌≡◌, drop}
-use Rattle.change_set.specs.Edge.{entry_of}
+use Rattle.machine_form.specs.Edge.{entry_of}
 use Rattle.plain_machine.proofs.edge.entry.Given as goal
 
 abbrev pub invariant-loop-label : goal.invariant-loop-label

@@ -1,6 +1,6 @@
 use Rattle.std.proofs.Common.{◌≡◌, ◌<◌, length, Some, None, false, sym, ap, ◌∙◌, subst, ℕ}
-use Rattle.change_set.specs.declared.change.Change.{Change}
-use Rattle.change_set.specs.declared.change.Control.TheVariants.{Jump as Go}
+use Rattle.machine_form.specs.declared.change.Change.{Change}
+use Rattle.machine_form.specs.declared.change.Control.TheVariants.{Jump as Go}
 use Rattle.plain_machine.proofs.WriteSteps.{go_with, jumped}
 use Rattle.plain_machine.proofs.edge.jump.Goals as goal
 

@@ -1,5 +1,5 @@
 use Rattle.std.proofs.Common.{◌≡◌, drop}
-use Rattle.change_set.specs.Edge.{phi_writes}
+use Rattle.machine_form.specs.Edge.{phi_writes}
 use Rattle.plain_machine.proofs.WriteSteps.{after_front}
 use Rattle.plain_machine.proofs.edge.phi_writes.Given as goal
 

@@ -1,5 +1,5 @@
 use Rattle.std.proofs.Common.{◌≡◌, ◌+◌, drop}
-use Rattle.change_set.specs.After.{phis_in}
+use Rattle.machine_form.specs.After.{phis_in}
 use Rattle.plain_machine.proofs.edge.phis.Given as goal
 
 abbrev pub invariant-loop-i : goal.invariant-loop-i

@@ -1,6 +1,6 @@
 use Rattle.std.proofs.Common.{◌≡◌, ◌+◌, ◌-◌, ◌<◌, ◌++◌}
 use Rattle.std.specs.List.{All}
-use Rattle.change_set.specs.Straight.{bytes_from, differing}
+use Rattle.machine_form.specs.Straight.{bytes_from, differing}
 use Rattle.plain_machine.proofs.memory.differing.Given as goal
 
 abbrev pub invariant-loop-i : goal.invariant-loop-i

@@ -2,8 +2,8 @@ use Rattle.std.proofs.Common.{◌≡◌, length, sym, ap, ◌∙◌, arith}
 use Rattle.std.specs.Prelude.{unwrap_or}
 use Rattle.code_form.specs.declared.code.Func.{Func}
 use Rattle.code_form.specs.Places.{no_function}
-use Rattle.change_set.proofs.FoundPlaces.{some_at}
-use Rattle.change_set.proofs.StartStates.{arguments_fit}
+use Rattle.machine_form.proofs.FoundPlaces.{some_at}
+use Rattle.machine_form.proofs.StartStates.{arguments_fit}
 use Rattle.plain_machine.proofs.start.first_frame.Goals as goal
 
 pub opening_registers-requires : goal.opening_registers-requires

@@ -1,6 +1,6 @@
 use Rattle.std.proofs.Common.{◌≡◌, drop, length, None, replicate}
-use Rattle.change_set.specs.State.{with_writes}
-use Rattle.change_set.specs.Calls.{numbered}
+use Rattle.machine_form.specs.State.{with_writes}
+use Rattle.machine_form.specs.Calls.{numbered}
 use Rattle.plain_machine.proofs.start.opening_registers.Given as goal
 
 abbrev pub invariant-loop-i : goal.invariant-loop-i

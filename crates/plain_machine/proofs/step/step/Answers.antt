@@ -1,8 +1,11 @@
-use Rattle.std.proofs.Common.{ℕ, List, sym, subst}
+use Rattle.std.proofs.Common.{◌≡◌, ℕ, List, IfOk, sym, subst}
 use Rattle.std.specs.List.{All}
 use Rattle.am_base.specs.declared.word.Width.{Width}
 use Rattle.code_form.specs.declared.instr.Operand.{Operand}
 use Rattle.code_form.specs.declared.instr.Instr.{Instr}
+use Rattle.machine_form.specs.Straight.{values_of, with_value}
+use Rattle.machine_form.specs.Calls.{call_change}
+use Rattle.machine_form.specs.Next.{next_of}
 use Rattle.plain_machine.specs.Operands.{HoldsWord, CanStep}
 use Rattle.plain_machine.proofs.step.step.Goals as goal
 
@@ -11,3 +14,11 @@ get-requires c =
     let P : Instr → Type 0 = CanStep c.args.code.now c.args.s.now in
     let Q : List (ℕ × Width × Operand) → Type 0 = All (λ i. HoldsWord c.args.s.now i.1 i.2) in
     subst Q (sym c.as_slice.ensures) (subst P c.in-Get.is c.requires.operands)
+
+pub returns-in-Call : goal.returns-in-Call
+returns-in-Call c answers =
+    let code = c.args.code.now in
+    let s = c.args.s.now in
+    let P : Instr → Type 0 = λ i. IfOk c.call.result (λ change. change ≡ next_of code answers s c.args.r i) in
+    let Q : List Operand → Type 0 = λ args. IfOk c.call.result (λ change. change ≡ with_value s (values_of s args) (λ xs. call_change code answers s c.args.r c.in-Call.callee xs)) in
+    subst P (sym c.in-Call.is) (subst Q c.as_slice-in-Call.ensures (c.call.ensures answers))

@@ -1,9 +1,9 @@
 use Rattle.std.proofs.Common.{length, replicate, Option, None, ℕ, ap, arith, subst}
 use Rattle.std.proofs.lemmas.List.{length-replicate}
 use Rattle.code_form.specs.Places.{function_at}
-use Rattle.change_set.specs.declared.change.Control.{Control}
-use Rattle.change_set.specs.declared.frame.Frame.{Frame}
-use Rattle.change_set.proofs.SoundStates.{length-with_writes}
+use Rattle.machine_form.specs.declared.change.Control.{Control}
+use Rattle.machine_form.specs.declared.frame.Frame.{Frame}
+use Rattle.machine_form.proofs.SoundStates.{length-with_writes}
 use Rattle.plain_machine.specs.Plain.{CanApply}
 use Rattle.plain_machine.proofs.state.FlatState.apply.Goals as goal
 

@@ -1,14 +1,14 @@
 use Rattle.std.proofs.Common.{◌≡◌, ◌+◌, [], ◌∷◌, length, reverse, set, sym, ap, ◌∙◌, arith}
 use Rattle.std.specs.Prelude.{sum_by}
-use Rattle.change_set.specs.declared.frame.Frame.{Frame}
-use Rattle.change_set.specs.State.{State, words_of}
-use Rattle.change_set.specs.After.{moved}
+use Rattle.machine_form.specs.declared.frame.Frame.{Frame}
+use Rattle.machine_form.specs.State.{State, registers_in_use}
+use Rattle.machine_form.specs.After.{moved}
 use Rattle.plain_machine.proofs.CountedWords.{words_counted, put_behind, taken_back, words_entered, newest_first, entered_after}
 use Rattle.plain_machine.proofs.state.FlatState.enter.Goals as goal
 
 pub overflow_add-self-2 : goal.overflow_add-self-2
 overflow_add-self-2 c =
-    let e : c.self.inside.words ≡ words_of c.args.self.now = c.self.invariant ∙ sym (words_counted c.self.inside.running c.self.inside.callers.items) ∙ ap words_of c.self.view_is in
+    let e : c.self.inside.words ≡ registers_in_use c.args.self.now = c.self.invariant ∙ sym (words_counted c.self.inside.running c.self.inside.callers.items) ∙ ap registers_in_use c.self.view_is in
     record { fits = omega (arith, c.requires.words, c.len-registers.ensures, e) }
 
 pub invariant_of-self-2 : goal.invariant_of-self-2

@@ -11,7 +11,8 @@ pub run_replaced-requires-clause-no_ports : goal.run_replaced-requires-clause-no
 run_replaced-requires-clause-no_ports c = no_ports example c.in_ok-code.code c.in_ok-code.ensures (λ memory. refl)
 
 pub run_replaced-requires-clause-case : goal.run_replaced-requires-clause-case
-run_replaced-requires-clause-case c = case_fits example c.in_ok-code.code c.in_ok-code.ensures _ (λ memory. record { defined = lit< tt; args = (c.requires.first, (c.requires.second, tt)); input = lit≤ tt; some = c.requires.some; few = c.requires.few })
+run_replaced-requires-clause-case c = case_fits example c.in_ok-code.code c.in_ok-code.ensures _
+    (λ memory. record { defined = lit< tt; args = (c.requires.first, (c.requires.second, tt)); input = lit≤ tt; some = c.requires.some; few = c.requires.few })
 
 pub run_replaced-requires-clause-fits : goal.run_replaced-requires-clause-fits
 run_replaced-requires-clause-fits c = place_fits example c.in_ok-code.code c.in_ok-code.ensures 0 (first_instr Sub) (λ memory bytes. refl)

@@ -10,4 +10,5 @@ pub run_original-requires-clause-no_ports : goal.run_original-requires-clause-no
 run_original-requires-clause-no_ports c = no_ports moves c.in_ok-code.code c.in_ok-code.ensures (λ memory. refl)
 
 pub run_original-requires-clause-case : goal.run_original-requires-clause-case
-run_original-requires-clause-case c = case_fits moves c.in_ok-code.code c.in_ok-code.ensures _ (λ memory. record { defined = c.requires.defined; args = c.requires.args; input = lit≤ tt; some = lit≤ tt; few = lit≤ tt })
+run_original-requires-clause-case c = case_fits moves c.in_ok-code.code c.in_ok-code.ensures _
+    (λ memory. record { defined = c.requires.defined; args = c.requires.args; input = lit≤ tt; some = lit≤ tt; few = lit≤ tt })

@@ -14,7 +14,8 @@ pub run_replaced-requires-clause-no_ports : goal.run_replaced-requires-clause-no
 run_replaced-requires-clause-no_ports c = no_ports sum c.in_ok-code.code c.in_ok-code.ensures (λ memory. refl)
 
 pub run_replaced-requires-clause-case : goal.run_replaced-requires-clause-case
-run_replaced-requires-clause-case c = case_fits sum c.in_ok-code.code c.in_ok-code.ensures _ (λ memory. record { defined = lit< tt; args = (c.requires.argument, tt); input = lit≤ tt; some = c.requires.some; few = c.requires.few })
+run_replaced-requires-clause-case c = case_fits sum c.in_ok-code.code c.in_ok-code.ensures _
+    (λ memory. record { defined = lit< tt; args = (c.requires.argument, tt); input = lit≤ tt; some = c.requires.some; few = c.requires.few })
 
 pub run_replaced-requires-clause-fits : goal.run_replaced-requires-clause-fits
 run_replaced-requires-clause-fits c = place_fits sum c.in_ok-code.code c.in_ok-code.ensures 4 (Bin Add W32 (Reg 1) (Word 0)) (λ memory bytes. refl)

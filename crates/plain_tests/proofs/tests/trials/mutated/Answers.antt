@@ -10,7 +10,8 @@ pub run_replaced-requires-clause-no_ports : goal.run_replaced-requires-clause-no
 run_replaced-requires-clause-no_ports c = no_ports trials c.in_ok-code.code c.in_ok-code.ensures (λ memory. refl)
 
 pub run_replaced-requires-clause-case : goal.run_replaced-requires-clause-case
-run_replaced-requires-clause-case c = case_fits trials c.in_ok-code.code c.in_ok-code.ensures _ (λ memory. record { defined = c.requires.defined; args = c.requires.args; input = c.requires.input; some = lit≤ tt; few = lit≤ tt })
+run_replaced-requires-clause-case c = case_fits trials c.in_ok-code.code c.in_ok-code.ensures _
+    (λ memory. record { defined = c.requires.defined; args = c.requires.args; input = c.requires.input; some = lit≤ tt; few = lit≤ tt })
 
 pub run_replaced-requires-clause-fits : goal.run_replaced-requires-clause-fits
 run_replaced-requires-clause-fits c = place_fits trials c.in_ok-code.code c.in_ok-code.ensures c.args.place c.args.with c.requires.fits

@@ -4,4 +4,4 @@ use Rattle.plain_tests.specs.Trials.{trials}
 use Rattle.plain_tests.proofs.tests.trials.output.Goals as goal
 
 pub mutated-requires-clause-fits : goal.mutated-requires-clause-fits
-mutated-requires-clause-fits g c = subst (PassesAt trials 14) (sym c.in_ok-with.ensures) (λ memory bytes. refl)
+mutated-requires-clause-fits g c = subst (PassesAt trials 9) (sym c.in_ok-with.ensures) (λ memory bytes. refl)

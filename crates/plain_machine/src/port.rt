@@ -1,0 +1,131 @@
+//! Calls of ports, and the change of any instruction.
+ghost use Rattle.std.specs.Prelude.{◌≡◌, ◌<◌, ◌^◌, ℕ, false, length, map, slice_get, IfOk, OnOk, MatchOption};
+ghost use Rattle.code_form.specs.declared.instr.Callee.TheVariants.{Port as AtPort};
+ghost use Rattle.code_form.specs.declared.instr.Instr.TheVariants.{Call as CallOf};
+ghost use Rattle.machine_form.specs.Straight.{values_of, with_value};
+ghost use Rattle.machine_form.specs.Calls.{answer_change, width_of_sign, call_change};
+ghost use Rattle.machine_form.specs.Next.{next_of};
+ghost use Rattle.machine_form.specs.Machine.{toll_of};
+ghost use Rattle.ports.specs.Asks.{answers_in, asked_in, AskedBy, AskedAtMostBy};
+ghost use Rattle.plain_machine.specs.Spots.{AreSpots};
+ghost use Rattle.plain_machine.specs.Operands.{CanAsk, CanChange, is_port_call};
+
+use crate::spots::Spot;
+use crate::state::FlatState;
+use crate::step::{gives, step, traps};
+use am_base::{Cast, OutOfMemory, Trap, Width, convert};
+use am_lists::Items;
+use change_set::Change;
+use code_form::{Callee, Code, Instr, Operand};
+use ports::{Port, ask_port};
+use std::alloc::Global;
+
+/// The words of some operands, or nothing where one of them isn't set.
+fn argument_words(
+    alloc: Global,
+    s: &FlatState,
+    args: &[Operand],
+) -> Result<Option<Items<u64>>, OutOfMemory>
+    ensures { IfOk result (λ words. words ≡ values_of s.now args.now) }
+{
+    let mut words = Items::new(alloc);
+    for a in args {
+        let Some(word) = s.value(*a) else {
+            return Ok(None);
+        };
+        words.push(word)?;
+    }
+    Ok(Some(words))
+}
+
+/// The width of what a port answers, if it has a result.
+fn port_width(code: &Code, p: u32) -> Option<Width>
+    ensures { result ≡ width_of_sign (slice_get code.now.signs p) }
+{
+    match code.signs.get(p as usize) {
+        Some(sign) => sign.result,
+        None => None,
+    }
+}
+
+/// The change by what a port answered, whose result has this width.
+fn answered(
+    alloc: Global,
+    s: &FlatState,
+    r: Option<u32>,
+    w: Option<Width>,
+    answer: Option<u64>,
+) -> Result<Change, OutOfMemory>
+    ensures { IfOk result (λ c. c ≡ answer_change s.now r w answer) }
+{
+    let Some(word) = answer else {
+        return Ok(traps(alloc, s, Trap::PortRefused));
+    };
+    match w {
+        None => gives(alloc, s, None, 0),
+        Some(w) => gives(alloc, s, r, convert(Cast::Trunc, Width::W64, w, word)),
+    }
+}
+
+/// A call of a port. It is asked once where all arguments are set, and not at all where one isn't.
+fn ask(
+    alloc: Global,
+    code: &Code,
+    s: &FlatState,
+    r: Option<u32>,
+    p: u32,
+    args: &[Operand],
+    ports: &mut [Box<dyn Port>],
+) -> Result<Change, OutOfMemory>
+    requires can { CanAsk code.now s.now p args.now }
+    requires signs { map (λ q. sign q) ports.old ≡ code.now.signs }
+    requires few { asked_in (map (λ q. asked q) ports.old) p < 2 ^ 63 }
+    ensures change { let answers = answers_in (map (λ q. answers q) ports.old) in
+        IfOk result (λ c. c ≡ with_value s.now (values_of s.now args.now) (λ xs. call_change code.now answers s.now r (AtPort p) xs)) }
+    ensures signs { map (λ q. sign q) ports.new ≡ map (λ q. sign q) ports.old }
+    ensures answers { map (λ q. answers q) ports.new ≡ map (λ q. answers q) ports.old }
+    ensures asks { OnOk result (AskedBy (map (λ q. asked q) ports.old) (map (λ q. asked q) ports.new) (λ q. toll_of q s.now (CallOf (AtPort p) args.now))) }
+    ensures asks_at_most { AskedAtMostBy (map (λ q. asked q) ports.old) (map (λ q. asked q) ports.new) (λ q. toll_of q s.now (CallOf (AtPort p) args.now)) }
+{
+    let Some(words) = argument_words(alloc, s, args)? else {
+        return Ok(traps(alloc, s, Trap::UnsetRegister));
+    };
+    let answer = ask_port(ports, p as usize, words.as_slice());
+    answered(alloc, s, r, port_width(code, p), answer)
+}
+
+/// The port that an instruction calls, by its number, with the arguments, or nothing where it calls none.
+fn port_call(i: &Instr) -> Option<(u32, &[Operand])>
+    ensures { MatchOption result (is_port_call i.now ≡ false) (λ call. i.now ≡ CallOf (AtPort call.0) call.1.now) }
+{
+    match i {
+        Instr::Call(Callee::Port(p), args) => Some((*p, args.as_slice())),
+        _ => None,
+    }
+}
+
+/// The change that an instruction makes. `r` is the register of its place.
+pub fn change(
+    alloc: Global,
+    code: &Code,
+    spots: &[Spot],
+    s: &FlatState,
+    r: Option<u32>,
+    i: &Instr,
+    ports: &mut [Box<dyn Port>],
+) -> Result<Change, OutOfMemory>
+    requires spots { AreSpots code.now spots.now }
+    requires can { CanChange code.now s.now i.now }
+    requires signs { map (λ q. sign q) ports.old ≡ code.now.signs }
+    requires few { (p : ℕ) → asked_in (map (λ q. asked q) ports.old) p < 2 ^ 63 }
+    ensures change { IfOk result (λ c. c ≡ next_of code.now (answers_in (map (λ q. answers q) ports.old)) s.now r i.now) }
+    ensures signs { map (λ q. sign q) ports.new ≡ map (λ q. sign q) ports.old }
+    ensures answers { map (λ q. answers q) ports.new ≡ map (λ q. answers q) ports.old }
+    ensures asks { OnOk result (AskedBy (map (λ q. asked q) ports.old) (map (λ q. asked q) ports.new) (λ q. toll_of q s.now i.now)) }
+    ensures asks_at_most { AskedAtMostBy (map (λ q. asked q) ports.old) (map (λ q. asked q) ports.new) (λ q. toll_of q s.now i.now) }
+{
+    match port_call(i) {
+        Some((p, args)) => ask(alloc, code, s, r, p, args, ports),
+        None => step(alloc, code, spots, s, r, i),
+    }
+}
