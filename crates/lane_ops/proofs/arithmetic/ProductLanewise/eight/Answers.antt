@@ -1,0 +1,14 @@
+use Rattle.std.proofs.Common.{◌*◌, ◌%◌, ◌^◌}
+use Rattle.am_base.specs.declared.word.BinOp.TheVariants.{Mul}
+use Rattle.lane_ops.specs.Lane.{lane_word}
+use Rattle.lane_ops.proofs.Formulas.{cut}
+use Rattle.lane_ops.proofs.Vectors.{masked}
+use Rattle.lane_ops.proofs.arithmetic.ProductLanewise.eight.Goals as goal
+
+pub returns : goal.returns
+returns c =
+    let w = c.args.self.now.0.width in
+    let r = c.requires in
+    masked w (λ x y. (x * y) % 2 ^ 64)
+    (lane_word Mul w) c.args.left c.args.right c.args.self.now.0.greatest r.left r.right r.left_words r.right_words c.args.self.now.0.greatest_is
+    (λ x y h k. cut w (x * y))

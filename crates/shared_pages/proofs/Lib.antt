@@ -1,0 +1,11 @@
+pub mod Owners
+pub mod Named
+pub mod Views
+pub mod RowSteps
+pub mod ForkSteps
+pub mod Kept
+pub mod ReleaseSteps
+pub mod PageSteps
+pub mod NewSteps
+pub mod ReserveSteps
+pub mod Runs

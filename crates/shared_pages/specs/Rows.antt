@@ -1,0 +1,61 @@
+-- Rows of 1,024 entries.
+use Rattle.am_base.specs.declared.limits.TheConstants.{MEMORY_BYTES, PAGE_BYTES}
+use Rattle.shared_pages.specs.Size.{memory_pages}
+use Rattle.std.specs.Prelude.{ℕ, zero, suc, List, true, ◌⊎◌, slice_set, ◌≢◌, ◌+◌, ◌*◌, ◌<◌, ◌≤◌, ◌≡◌, ◌^◌, length, slice_index}
+use Rattle.shared_pages.specs.Counts.{Names, occurs, one_if}
+use Rattle.shared_pages.specs.Store.{own_at, blank_at, byte_at}
+
+-- the first entries of row n are those of row m, and no other entry differs
+pub record IsCopied (old new : Names) (m n count : ℕ) : Type 0 where
+  pub long : length new.entries ≡ length old.entries
+  pub limit : new.limit ≡ old.limit
+  pub used : new.used ≡ old.used
+  pub copied : (j : ℕ) → j < count → slice_index new.entries (n * memory_pages + j) ≡ slice_index old.entries (m * memory_pages + j)
+  pub below : (j : ℕ) → j < n * memory_pages → slice_index new.entries j ≡ slice_index old.entries j
+  pub above : (j : ℕ) → n * memory_pages + count ≤ j → slice_index new.entries j ≡ slice_index old.entries j
+
+-- how many of the first entries of row n are the only ones that name their number
+unfoldable pub own_below : List ℕ → ℕ → ℕ → ℕ
+own_below entries n zero = 0
+own_below entries n (suc i) = own_below entries n i + one_if (own_at entries (n * memory_pages + i))
+
+-- the first entries of row n are 0, and no other entry differs
+pub record IsCleared (old new : Names) (n count : ℕ) : Type 0 where
+  pub long : length new.entries ≡ length old.entries
+  pub limit : new.limit ≡ old.limit
+  pub used : new.used + own_below old.entries n count ≡ old.used
+  pub cleared : (j : ℕ) → j < count → slice_index new.entries (n * memory_pages + j) ≡ 0
+  pub below : (j : ℕ) → j < n * memory_pages → slice_index new.entries j ≡ slice_index old.entries j
+  pub above : (j : ℕ) → n * memory_pages + count ≤ j → slice_index new.entries j ≡ slice_index old.entries j
+  pub others : (p : ℕ) → 0 < p → ((j : ℕ) → j < count → slice_index old.entries (n * memory_pages + j) ≢ p) → occurs p new.entries ≡ occurs p old.entries
+
+-- number n has an owner, and no other number changed
+pub record IsTaken (old new : List ℕ) (n : ℕ) : Type 0 where
+  pub below : n < length new
+  pub long : length old ≤ length new
+  pub taken : slice_index new n ≡ 1
+  pub others : (k : ℕ) → k ≢ n → slice_index new k ≡ slice_index old k
+
+-- there may be more entries, which are 0
+pub record IsExtended (old new : Names) : Type 0 where
+  pub few : length new.entries < 2 ^ 32
+  pub long : length old.entries ≤ length new.entries
+  pub limit : new.limit ≡ old.limit
+  pub used : new.used ≡ old.used
+  pub same : (j : ℕ) → slice_index new.entries j ≡ slice_index old.entries j
+  pub occurs : (p : ℕ) → 0 < p → occurs p new.entries ≡ occurs p old.entries
+
+-- a memory's row, in which pages were let go or taken: the bytes and the zero pages are the same, and no page of its own is lost
+pub record RowKept (old new : List ℕ) (before after : List ℕ) (m : ℕ) : Type 0 where
+  pub bytes : (b : ℕ) → b < MEMORY_BYTES → byte_at new after m b ≡ byte_at old before m b
+  pub blank : (i : ℕ) → i < memory_pages → blank_at new (m * memory_pages + i) ≡ blank_at old (m * memory_pages + i)
+  pub own : (i : ℕ) → i < memory_pages → own_at old (m * memory_pages + i) ≡ true → own_at new (m * memory_pages + i) ≡ true
+
+-- entry `at` names a number that none named, whose page has a copy of the bytes of the page that it named before
+pub record IsRenewed (old new : Names) (before after : List ℕ) (at p : ℕ) : Type 0 where
+  pub place : at < length old.entries
+  pub entries : new.entries ≡ slice_set old.entries at p
+  pub other : 0 < p
+  pub unnamed : occurs p old.entries ≡ 0
+  pub copied : (o : ℕ) → o < PAGE_BYTES → slice_index after (p * PAGE_BYTES + o) ≡ slice_index before (slice_index old.entries at * PAGE_BYTES + o)
+  pub same : (i : ℕ) → (i < p * PAGE_BYTES) ⊎ (p * PAGE_BYTES + PAGE_BYTES ≤ i) → slice_index after i ≡ slice_index before i
