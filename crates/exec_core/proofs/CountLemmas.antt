@@ -1,34 +1,11 @@
 -- Counts that rise, turn by turn.
 use Rattle.std.proofs.Common.{◌≡◌, ℕ, ◌+◌, ◌≤◌, arith, ◌∙◌}
-use Rattle.traces.specs.Counts.{Counts, SameCounts}
-use Rattle.exec_core.specs.Counted.{RoseBy, RoseWithin}
-
-pub within_none : (a by : Counts) → RoseWithin a a by
-within_none a by = record {
-  tried = record { least = omega arith; most = omega arith };
-  applied = record { least = omega arith; most = omega arith };
-  weighed = record { least = omega arith; most = omega arith };
-  readied = record { least = omega arith; most = omega arith };
-  asks = λ p. record { least = omega arith; most = omega arith };
-}
+use Rattle.traces.specs.Counts.{Counts, RoseBy, RoseWithin}
 
 -- what a machine's tries count
 module _ (a b : Counts) (n : ℕ) (tolls : ℕ → ℕ) where
   abbrev pub tries_alone : Counts
   tries_alone = record { tried = n; applied = 0; weighed = 0; readied = 0; asks = tolls }
-
-  module _ (applied : b.applied ≡ a.applied) (weighed : b.weighed ≡ a.weighed) (readied : b.readied ≡ a.readied) where
-    pub tries_within : a.tried ≤ b.tried → b.tried ≤ a.tried + n → ((p : ℕ) → a.asks p ≤ b.asks p) → ((p : ℕ) → b.asks p ≤ a.asks p + tolls p) → RoseWithin a b tries_alone
-    tries_within l m f g = record {
-      tried = record { least = l; most = m };
-      applied = record { least = omega arith; most = omega arith };
-      weighed = record { least = omega arith; most = omega arith };
-      readied = record { least = omega arith; most = omega arith };
-      asks = λ p. record { least = f p; most = g p };
-    }
-
-    pub tries_by : b.tried ≡ a.tried + n → ((p : ℕ) → b.asks p ≡ a.asks p + tolls p) → RoseBy a b tries_alone
-    tries_by t f = record { tried = t; applied = omega arith; weighed = omega arith; readied = omega arith; asks = f }
 
 -- the counts of a turn: those of its tries, and then those of its changes
 module _ (a b c : Counts) (n applied weight : ℕ) (tolls : ℕ → ℕ) where
@@ -57,13 +34,3 @@ module _ (a b c : Counts) (n applied weight : ℕ) (tolls : ℕ → ℕ) where
 
   pub none_applied : RoseWithin a b (tries_alone a b n tolls) → (b.applied ≡ a.applied) × (b.weighed ≡ a.weighed)
   none_applied r = (omega (arith, r.applied.least, r.applied.most), omega (arith, r.weighed.least, r.weighed.most))
-
--- what no later call counts
-pub within_still : (a b c most : Counts) → RoseWithin a b most → SameCounts b c → RoseWithin a c most
-within_still a b c most r s = record {
-  tried = record { least = omega (arith, r.tried.least, s.tried); most = omega (arith, r.tried.most, s.tried) };
-  applied = record { least = omega (arith, r.applied.least, s.applied); most = omega (arith, r.applied.most, s.applied) };
-  weighed = record { least = omega (arith, r.weighed.least, s.weighed); most = omega (arith, r.weighed.most, s.weighed) };
-  readied = record { least = omega (arith, r.readied.least, s.readied); most = omega (arith, r.readied.most, s.readied) };
-  asks = λ p. record { least = omega (arith, (r.asks p).least, s.asks p); most = omega (arith, (r.asks p).most, s.asks p) };
-}

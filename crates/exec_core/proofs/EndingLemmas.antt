@@ -23,16 +23,17 @@ use Rattle.traces.proofs.Permutations.{cancel_front, flat_map_moved}
 use Rattle.traces.proofs.Splits.{splits_written}
 use Rattle.traces.proofs.Steps.{length_map}
 use Rattle.exec_core.specs.Analysed.{IsGoing, IsStopped, AreClasses, end_of, class_from, class_numbers}
-use Rattle.exec_core.specs.Counted.{RoseBy, totals}
-use Rattle.exec_core.specs.Ends.{IsEnd}
+use Rattle.traces.specs.Counts.{RoseBy}
+use Rattle.exec_core.specs.Counted.{totals}
+use Rattle.traces.specs.Ends.{IsEnd}
 use Rattle.exec_core.specs.Engines.{split_seen}
 use Rattle.exec_core.specs.Lives.{execution_of, live_numbers}
-use Rattle.exec_core.specs.Plans.{trial_of}
+use Rattle.code_form.specs.Trial.{trial_of}
 use Rattle.exec_core.specs.Turned.{executions_of, IsHeld}
 use Rattle.exec_core.specs.declared.engine.Engine.{Engine}
 use Rattle.exec_core.specs.declared.lives.Live.{Live}
 use Rattle.exec_core.specs.declared.result.Class.{Class}
-use Rattle.exec_core.proofs.EndLemmas.{ended_is}
+use Rattle.traces.proofs.WholeTraces.{ended_is}
 use Rattle.exec_core.proofs.GoingLemmas.{ones}
 use Rattle.exec_core.proofs.Holding.{All-from_contains, apart_lists}
 use Rattle.exec_machine.proofs.Numbers.{flips, contains_rest}

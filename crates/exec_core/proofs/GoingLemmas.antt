@@ -28,11 +28,13 @@ use Rattle.traces.proofs.Steps.{parts_cost}
 use Rattle.traces.proofs.TurnCounts.{tries_cost, tolls_cost, weights_cost}
 use Rattle.traces.proofs.Turns.{turned_between, opening_is}
 use Rattle.exec_core.specs.Analysed.{IsGoing, IsStopped}
-use Rattle.exec_core.specs.Counted.{RoseBy, RoseWithin, IsBetween, AreAtMost, counts_so_far, counts_of_turn, totals}
+use Rattle.traces.specs.Counts.{RoseBy, RoseWithin, IsBetween, AreAtMost}
+use Rattle.exec_core.specs.Counted.{counts_so_far, counts_of_turn, totals}
 use Rattle.exec_core.specs.Engines.{split_seen}
 use Rattle.exec_core.specs.Held.{IsReleased}
 use Rattle.exec_core.specs.Lives.{execution_of, live_numbers, goes_on}
-use Rattle.exec_core.specs.Plans.{trial_of, KnowsTable}
+use Rattle.exec_core.specs.Plans.{KnowsTable}
+use Rattle.code_form.specs.Trial.{trial_of}
 use Rattle.exec_core.specs.Turned.{executions_of, split_made, IsHeld, AreHeld, Turned, Refused}
 use Rattle.exec_core.specs.declared.lives.Live.{Live}
 use Rattle.exec_core.specs.declared.engine.Engine.{Engine}

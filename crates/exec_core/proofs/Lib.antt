@@ -1,5 +1,3 @@
-mod EndLemmas
-mod SplitLemmas
 pub mod Holding
 pub mod PieceLemmas
 mod LiveLemmas
@@ -10,10 +8,11 @@ mod SettleLemmas
 mod TriedLemmas
 mod PlanLemmas
 mod ChangeLemmas
-mod CountLemmas
 mod TurnLemmas
 mod PlannedLemmas
 mod GoingLemmas
 mod SortLemmas
 mod EndingLemmas
 mod Marked
+mod CountLemmas
+mod PickLemmas

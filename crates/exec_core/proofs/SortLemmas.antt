@@ -18,7 +18,7 @@ use Rattle.std.specs.Cmp.Lexicographic.{pointwise}
 use denote.Param.Members.{Mut}
 use denote.Ref.{Bor}
 use Rattle.exec_core.specs.Engines.{split_seen}
-use Rattle.exec_core.specs.Splits.{IsEarlier}
+use Rattle.traces.specs.Splits.{IsEarlier}
 use Rattle.exec_core.specs.declared.result.Split.{Split}
 
 all_tail : {X : Type 0} (R : X → X → Type 0) (x : X) (xs : List X) → AllPairs R (x ∷ xs) → AllPairs R xs

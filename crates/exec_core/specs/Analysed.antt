@@ -16,8 +16,9 @@ use Rattle.traces.specs.Together.{below}
 use Rattle.traces.specs.Work.{steps}
 use Rattle.traces.specs.Configuration.{Execution, IsConfiguration}
 use Rattle.traces.specs.Cost.{cost_so_far, step_cost, try_cost, same_split, split_cost}
-use Rattle.exec_core.specs.Counted.{RoseBy, RoseWithin, IsBetween, counts_so_far, totals}
-use Rattle.exec_core.specs.Ends.{IsEnd}
+use Rattle.traces.specs.Counts.{RoseBy, RoseWithin, IsBetween}
+use Rattle.exec_core.specs.Counted.{counts_so_far, totals}
+use Rattle.traces.specs.Ends.{IsEnd}
 use Rattle.exec_core.specs.Engines.{split_seen}
 use Rattle.exec_core.specs.Turned.{executions_of, IsHeld}
 use Rattle.exec_core.specs.declared.engine.Engine.{Engine}

@@ -1,5 +1,3 @@
-pub mod Ends
-pub mod Splits
 pub mod Pieces
 pub mod Plans
 pub mod Held
@@ -9,4 +7,5 @@ pub mod ClassTable
 pub mod Counted
 pub mod Engines
 pub mod Turned
+pub mod Picked
 pub mod Analysed

@@ -2,7 +2,7 @@
 use Rattle.std.specs.Prelude.{◌≡◌, ℕ, ◌+◌, ◌==◌, true, if◌then◌else◌, List, map, [], ◌∷◌, ◌++◌, nat_eq, slice_index}
 use Rattle.std.specs.List.{sum_by, filter, All, Contains, IsDistinct}
 use Rattle.std.specs.List.Sorted.{IsPermutation}
-use Rattle.code_form.specs.Variant.{Table, variant_of, mutants_of}
+use Rattle.code_form.specs.Variant.{Table, variant_of}
 use Rattle.traces.specs.Meanings.{Meanings}
 use Rattle.traces.specs.Trace.{Trial, change_of}
 use Rattle.traces.specs.Configuration.{Execution, same_change, is_leader}
@@ -42,10 +42,6 @@ own_firsts numbers i (c ∷ cs) = if slice_index numbers i == i then c ∷ own_f
 -- for each part of an execution, in order of least member, its members and their change
 abbrev pub plans_at : {S C : Type 0} → Trial S C → Execution S → List (List ℕ × C)
 plans_at T e = map (λ m. (filter (same_change T e m) e.members, change_of T m e.state)) (filter (is_leader T e) e.members)
-
--- the trial of a machine with these meanings and the mutants of a table, from a start on within a budget
-abbrev pub trial_of : {W C : Type 0} → Meanings W C → Table → W → ℕ → Trial W C
-trial_of A table start budget = record { meanings = A; variant = variant_of table; start = start; budget = budget; mutants = mutants_of table }
 
 -- each variant that the table has for a mutant at a place is known there
 abbrev pub KnowsTable : {S C : Type 0} → Meanings S C → Table → Type 0

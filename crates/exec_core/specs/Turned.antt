@@ -12,7 +12,8 @@ use Rattle.std.specs.List.Sorted.{IsPermutation}
 use Rattle.traces.specs.View.{View, Keeps}
 use Rattle.traces.specs.Trace.{Trial}
 use Rattle.traces.specs.Configuration.{Execution, is_leader, parts, variants_of}
-use Rattle.exec_core.specs.Counted.{RoseBy, RoseWithin, counts_of_turn}
+use Rattle.traces.specs.Counts.{RoseBy, RoseWithin}
+use Rattle.exec_core.specs.Counted.{counts_of_turn}
 use Rattle.exec_core.specs.Lives.{execution_of, live_numbers, goes_on}
 use Rattle.exec_core.specs.Divided.{child_of}
 use Rattle.exec_core.specs.Engines.{split_seen}

@@ -6,7 +6,7 @@ ghost use Rattle.traces.specs.View.{Keeps};
 ghost use Rattle.exec_core.specs.Analysed.{class_from};
 ghost use Rattle.exec_core.specs.Engines.{IsIdle, split_seen};
 ghost use Rattle.exec_core.specs.Lives.{live_numbers};
-ghost use Rattle.exec_core.specs.Splits.{IsEarlier};
+ghost use Rattle.traces.specs.Splits.{IsEarlier};
 
 use crate::engine::Engine;
 use crate::lives::Live;

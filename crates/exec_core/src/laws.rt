@@ -9,8 +9,8 @@ ghost use Rattle.traces.specs.Trace.{Trial, trace, AreChangesFrom};
 ghost use Rattle.traces.specs.Together.{together, AreTogether, CountsPrefixes};
 ghost use Rattle.traces.specs.Work.{steps, executions, splits};
 ghost use Rattle.traces.specs.Configuration.{IsConfiguration, is_live, run, opening};
-ghost use Rattle.exec_core.specs.Ends.{IsEnd};
-ghost use Rattle.exec_core.specs.Splits.{IsSplit, IsEarlier};
+ghost use Rattle.traces.specs.Ends.{IsEnd};
+ghost use Rattle.traces.specs.Splits.{IsSplit, IsEarlier};
 
 use exec_machine::Machine;
 

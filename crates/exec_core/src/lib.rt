@@ -9,6 +9,7 @@ pub mod laws;
 mod lives;
 mod marks;
 mod meter;
+mod pick;
 mod pieces;
 mod plan;
 mod plans;

@@ -3,8 +3,10 @@ ghost use Rattle.std.specs.List.{IsDistinct};
 ghost use Rattle.member_sets.specs.Members.{IsMemberList};
 ghost use Rattle.traces.specs.Configuration.{variants_of};
 ghost use Rattle.traces.specs.View.{Keeps, IsLive};
-ghost use Rattle.exec_core.specs.Counted.{RoseBy, RoseWithin, AreAtMost, counts_of_tries};
-ghost use Rattle.exec_core.specs.Plans.{plans_of, plans_at, trial_of, KnowsTable};
+ghost use Rattle.traces.specs.Counts.{RoseBy, RoseWithin, AreAtMost};
+ghost use Rattle.exec_core.specs.Counted.{tries_of_turn};
+ghost use Rattle.exec_core.specs.Plans.{plans_of, plans_at, KnowsTable};
+ghost use Rattle.code_form.specs.Trial.{trial_of};
 ghost use Rattle.exec_core.specs.Lives.{execution_of};
 
 use crate::class_table::write_classes;
@@ -50,9 +52,9 @@ fn try_members<M: Machine>(
     ensures changes { IfOk result (λ tried. tried.changes.items
         ≡ map (λ v. (M.view.meanings machine.old).next v (M.view.stands machine.old e.now.state)) tried.variants.items) }
     ensures counts { OnOk result ((start : M.Meaning) (budget : ℕ) → RoseBy (M.view.counts machine.old) (M.view.counts machine.new)
-        (counts_of_tries (trial_of (M.view.meanings machine.old) table.now start budget) (execution_of M.view machine.old e.now))) }
+        (tries_of_turn (trial_of (M.view.meanings machine.old) table.now start budget) (execution_of M.view machine.old e.now))) }
     ensures counts_within { (start : M.Meaning) (budget : ℕ) → RoseWithin (M.view.counts machine.old) (M.view.counts machine.new)
-        (counts_of_tries (trial_of (M.view.meanings machine.old) table.now start budget) (execution_of M.view machine.old e.now)) }
+        (tries_of_turn (trial_of (M.view.meanings machine.old) table.now start budget) (execution_of M.view machine.old e.now)) }
     ensures out_numbers { M.view.out_numbers machine.new ≡ M.view.out_numbers machine.old }
     ensures keeps { Keeps M.view machine.old machine.new [] }
 {
@@ -85,9 +87,9 @@ pub fn plan<M: Machine>(
     ensures few { IfOk result (λ planned. planned.tried ≤ 65536) }
     ensures members { OnOk result (IsMemberList e.now.members) }
     ensures counts { OnOk result ((start : M.Meaning) (budget : ℕ) → RoseBy (M.view.counts machine.old) (M.view.counts machine.new)
-        (counts_of_tries (trial_of (M.view.meanings machine.old) table.now start budget) (execution_of M.view machine.old e.now))) }
+        (tries_of_turn (trial_of (M.view.meanings machine.old) table.now start budget) (execution_of M.view machine.old e.now))) }
     ensures counts_within { (start : M.Meaning) (budget : ℕ) → RoseWithin (M.view.counts machine.old) (M.view.counts machine.new)
-        (counts_of_tries (trial_of (M.view.meanings machine.old) table.now start budget) (execution_of M.view machine.old e.now)) }
+        (tries_of_turn (trial_of (M.view.meanings machine.old) table.now start budget) (execution_of M.view machine.old e.now)) }
     ensures out_numbers { M.view.out_numbers machine.new ≡ M.view.out_numbers machine.old }
     ensures keeps { Keeps M.view machine.old machine.new [] }
 {

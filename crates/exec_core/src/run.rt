@@ -1,52 +1,25 @@
-ghost use Rattle.std.specs.Prelude.{◌≡◌, ℕ, ◌+◌, ◌*◌, ◌^◌, ◌<◌, ◌≤◌, ◌++◌, [], length, IfNone, IfSome, IfOk, OnOk, OnErr, slice_index, slice_index_or, vec_len};
-ghost use Rattle.std.specs.List.{All};
+ghost use Rattle.std.specs.Prelude.{◌≡◌, ℕ, ◌+◌, ◌*◌, ◌^◌, ◌<◌, ◌≤◌, ◌++◌, [], IfOk, OnOk, OnErr};
 ghost use Rattle.code_form.specs.Variant.{mutants_of};
 ghost use Rattle.traces.specs.Counts.{SameCounts};
 ghost use Rattle.traces.specs.Together.{below};
 ghost use Rattle.exec_core.specs.Analysed.{IsGoing, IsStopped};
-ghost use Rattle.exec_core.specs.Counted.{AreAtMost};
+ghost use Rattle.traces.specs.Counts.{AreAtMost};
 ghost use Rattle.exec_core.specs.Engines.{IsIdle, KeepsExecutions, HasRoomFor};
 ghost use Rattle.exec_core.specs.Held.{IsReleased};
-ghost use Rattle.exec_core.specs.declared.lives.Live.{Live};
-ghost use Rattle.exec_core.specs.Plans.{trial_of, KnowsTable};
+ghost use Rattle.exec_core.specs.Plans.{KnowsTable};
+ghost use Rattle.code_form.specs.Trial.{trial_of};
 
 use crate::engine::{Engine, make_room};
 use crate::lives::Live;
 use crate::meter::Meter;
+use crate::pick::{arrange, take_turn};
 use crate::settle::settle;
-use crate::turn::turn;
 use am_base::OutOfMemory;
 use code_form::Variants;
 use exec_machine::Machine;
 use member_sets::Members;
+use picker::Picker;
 use std::alloc::Global;
-
-/// The index of the execution with the least least member, of one or more.
-fn lowest<S>(lives: &[Live<S>]) -> usize
-    requires { 0 < length lives.now }
-    ensures within { result < length lives.now }
-    ensures least { (l : Live S) → All (λ k. slice_index (slice_index_or lives.now result l).members 0 ≤ slice_index k.members 0) lives.now }
-{
-    let mut best = 0;
-    for at in 1..lives.len() {
-        if lives[at].members.least() < lives[best].members.least() {
-            best = at;
-        }
-    }
-    best
-}
-
-/// The index of the execution that takes the next turn, if there is one: the one with the least least member.
-fn pick<S>(lives: &[Live<S>]) -> Option<usize>
-    ensures none { IfNone result (lives.now ≡ []) }
-    ensures within { IfSome result (λ at. at < length lives.now) }
-    ensures least { IfSome result (λ at. (l : Live S) → All (λ k. slice_index (slice_index_or lives.now at l).members 0 ≤ slice_index k.members 0) lives.now) }
-{
-    if lives.is_empty() {
-        return None;
-    }
-    Some(lowest(lives))
-}
 
 /// The set of all mutants, and room for the first execution.
 fn first_members<S, C>(
@@ -117,13 +90,15 @@ fn open<M: Machine>(
     }
 }
 
-/// Runs all mutants from the start on until no execution goes on. The live execution with the least least member takes each turn.
+/// Runs all mutants from the start on until no execution goes on. The picker chooses the
+/// execution that takes each turn.
 pub fn run_all<M: Machine>(
     alloc: Global,
     machine: &mut M,
     table: &Variants,
     start: M::State,
     budget: u64,
+    picker: &mut Box<dyn Picker>,
     engine: &mut Engine<M::State, M::Change>,
     meter: &mut Meter,
 ) -> Result<(), OutOfMemory>
@@ -147,8 +122,12 @@ pub fn run_all<M: Machine>(
     ensures idle { IsIdle engine.new }
 {
     open(alloc, machine, table, start, budget, engine, meter)?;
-    while let Some(at) = pick(&engine.lives) {
-        turn(alloc, machine, table, budget, at, engine, meter)?;
+    let mut offers = Vec::new(alloc);
+    'turns: while !engine.lives.is_empty() {
+        arrange(engine, &mut offers)?;
+        take_turn(
+            alloc, machine, table, budget, picker, &offers, engine, meter,
+        )?;
     }
     Ok(())
 }

@@ -4,9 +4,11 @@ ghost use Rattle.code_form.specs.Variant.{mutants_of};
 ghost use Rattle.traces.specs.View.{Keeps};
 ghost use Rattle.traces.specs.Work.{steps, alone, tries, executions, splits};
 ghost use Rattle.exec_core.specs.Analysed.{IsGoing, IsStopped, AreClasses, class_numbers};
-ghost use Rattle.exec_core.specs.Counted.{RoseBy, RoseWithin, IsBetween, AreAtMost, totals};
+ghost use Rattle.traces.specs.Counts.{RoseBy, RoseWithin, IsBetween, AreAtMost};
+ghost use Rattle.exec_core.specs.Counted.{totals};
 ghost use Rattle.exec_core.specs.Engines.{IsIdle, split_seen};
-ghost use Rattle.exec_core.specs.Plans.{trial_of, KnowsTable};
+ghost use Rattle.exec_core.specs.Plans.{KnowsTable};
+ghost use Rattle.code_form.specs.Trial.{trial_of};
 
 use crate::engine::{Engine, idle};
 use crate::finish::{analysis_of, release_engine};
@@ -16,6 +18,7 @@ use crate::run::run_all;
 use am_base::OutOfMemory;
 use code_form::Variants;
 use exec_machine::Machine;
+use picker::Picker;
 use std::alloc::Global;
 
 /// Runs all mutants to their ends, and makes room for their classes.
@@ -25,6 +28,7 @@ fn run_to_end<M: Machine>(
     table: &Variants,
     start: M::State,
     budget: u64,
+    picker: &mut Box<dyn Picker>,
     engine: &mut Engine<M::State, M::Change>,
     meter: &mut Meter,
 ) -> Result<Vec<Class<M::State>>, OutOfMemory>
@@ -48,7 +52,7 @@ fn run_to_end<M: Machine>(
         machine.old machine.new (M.view.number start) engine.new meter.old meter.new) }
     ensures idle { IsIdle engine.new }
 {
-    run_all(alloc, machine, table, start, budget, engine, meter)?;
+    run_all(alloc, machine, table, start, budget, picker, engine, meter)?;
     let classes = Vec::with_capacity(alloc, engine.ended.len())?;
     Ok(classes)
 }
@@ -70,6 +74,7 @@ pub fn analyse<M: Machine>(
     variants: &Variants,
     start: M::State,
     budget: u64,
+    picker: &mut Box<dyn Picker>,
     meter: &mut Meter,
 ) -> Result<Analysis<M::State>, OutOfMemory>
     requires budget { budget ≤ 10000000 }
@@ -111,7 +116,16 @@ pub fn analyse<M: Machine>(
 {
     let before = meter.steps();
     let mut engine = idle(alloc);
-    match run_to_end(alloc, machine, variants, start, budget, &mut engine, meter) {
+    match run_to_end(
+        alloc,
+        machine,
+        variants,
+        start,
+        budget,
+        picker,
+        &mut engine,
+        meter,
+    ) {
         Ok(classes) => Ok(analysis_of(engine, classes, meter.steps() - before)),
         Err(error) => {
             release_engine(machine, engine);

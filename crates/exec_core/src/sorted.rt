@@ -2,7 +2,7 @@ ghost use Rattle.std.specs.Prelude.{◌≡◌, ℕ, List, map, slice_index};
 ghost use Rattle.std.specs.List.{AllPairs};
 ghost use Rattle.std.specs.List.Sorted.{IsPermutation, IsNonDecreasingBy};
 ghost use Rattle.exec_core.specs.Engines.{split_seen};
-ghost use Rattle.exec_core.specs.Splits.{IsEarlier};
+ghost use Rattle.traces.specs.Splits.{IsEarlier};
 
 use crate::result::{Class, Split};
 

@@ -3,10 +3,12 @@ ghost use Rattle.std.specs.List.{All};
 ghost use Rattle.member_sets.specs.Members.{IsMemberList};
 ghost use Rattle.traces.specs.Configuration.{variants_of};
 ghost use Rattle.traces.specs.View.{Keeps, IsLive, IsKnown};
-ghost use Rattle.exec_core.specs.Counted.{RoseBy, RoseWithin, AreAtMost, counts_of_tries};
+ghost use Rattle.traces.specs.Counts.{RoseBy, RoseWithin, AreAtMost};
+ghost use Rattle.exec_core.specs.Counted.{tries_of_turn};
 ghost use Rattle.exec_core.specs.Engines.{IsIdle, KeepsExecutions, HasRoomFor, split_seen};
 ghost use Rattle.exec_core.specs.Lives.{execution_of, live_numbers, IsPutBack};
-ghost use Rattle.exec_core.specs.Plans.{plans_of, plans_at, plan_weights, trial_of, KnowsTable};
+ghost use Rattle.exec_core.specs.Plans.{plans_of, plans_at, plan_weights, KnowsTable};
+ghost use Rattle.code_form.specs.Trial.{trial_of};
 ghost use Rattle.exec_core.specs.Turned.{split_made, IsHeld, AreHeld, Advanced, Turned, Refused};
 
 use crate::divide::divide;
@@ -52,9 +54,9 @@ fn plan_turn<M: Machine>(
     ensures splits { OnOk result ((start : M.Meaning) (budget : ℕ) → map split_seen engine.new.splits.items ≡ map split_seen engine.old.splits.items
         ++ split_made (trial_of (M.view.meanings machine.old) table.now start budget) (execution_of M.view machine.old e.now)) }
     ensures counts { OnOk result ((start : M.Meaning) (budget : ℕ) → RoseBy (M.view.counts machine.old) (M.view.counts machine.new)
-        (counts_of_tries (trial_of (M.view.meanings machine.old) table.now start budget) (execution_of M.view machine.old e.now))) }
+        (tries_of_turn (trial_of (M.view.meanings machine.old) table.now start budget) (execution_of M.view machine.old e.now))) }
     ensures counts_within { (start : M.Meaning) (budget : ℕ) → RoseWithin (M.view.counts machine.old) (M.view.counts machine.new)
-        (counts_of_tries (trial_of (M.view.meanings machine.old) table.now start budget) (execution_of M.view machine.old e.now)) }
+        (tries_of_turn (trial_of (M.view.meanings machine.old) table.now start budget) (execution_of M.view machine.old e.now)) }
     ensures out_numbers { M.view.out_numbers machine.new ≡ M.view.out_numbers machine.old }
     ensures keeps { Keeps M.view machine.old machine.new [] }
 {

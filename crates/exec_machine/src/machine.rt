@@ -1,8 +1,7 @@
 ghost use Rattle.std.specs.Prelude.{◌≡◌, ℕ, ◌+◌, ◌^◌, ◌<◌, ◌≤◌, [], ◌∷◌, length, IfOk, OnOk, OnErr, map, nat_eq};
 ghost use Rattle.std.specs.List.{IsDistinct};
 ghost use Rattle.std.specs.List.Sorted.{IsPermutation};
-ghost use Rattle.traces.specs.Meanings.{total_toll};
-ghost use Rattle.traces.specs.Counts.{SameCounts};
+ghost use Rattle.traces.specs.Counts.{SameCounts, RoseBy, RoseWithin, counts_of_tries, counts_of_ready, counts_of_apply};
 ghost use Rattle.traces.specs.View.{View, IsLawful, Keeps, KeepsReady, IsLive, AreKnown, IsKnown};
 ghost use Rattle.change_classes.specs.First.{first_equal};
 
@@ -63,19 +62,10 @@ pub trait Machine {
 
         ensures changes { OnOk result (out.new.items
             ≡ map (λ v. (view.meanings self.old).next v (view.stands self.old s.now)) variants.now) }
-        ensures tried { OnOk result ((view.counts self.new).tried ≡ (view.counts self.old).tried + length variants.now) }
-        ensures asks { OnOk result ((port : ℕ) → (view.counts self.new).asks port ≡ (view.counts self.old).asks port
-            + total_toll (view.meanings self.old) port (view.stands self.old s.now) variants.now) }
-
-        // Whatever it answers, what it counts rises by at most that, and nothing else changes.
-        ensures tried_at_least { (view.counts self.old).tried ≤ (view.counts self.new).tried }
-        ensures tried_at_most { (view.counts self.new).tried ≤ (view.counts self.old).tried + length variants.now }
-        ensures asks_at_least { (port : ℕ) → (view.counts self.old).asks port ≤ (view.counts self.new).asks port }
-        ensures asks_at_most { (port : ℕ) → (view.counts self.new).asks port ≤ (view.counts self.old).asks port
-            + total_toll (view.meanings self.old) port (view.stands self.old s.now) variants.now }
-        ensures applied { (view.counts self.new).applied ≡ (view.counts self.old).applied }
-        ensures weighed { (view.counts self.new).weighed ≡ (view.counts self.old).weighed }
-        ensures readied { (view.counts self.new).readied ≡ (view.counts self.old).readied }
+        ensures counts { OnOk result (RoseBy (view.counts self.old) (view.counts self.new)
+            (counts_of_tries (view.meanings self.old) (view.stands self.old s.now) variants.now)) }
+        ensures counts_within { RoseWithin (view.counts self.old) (view.counts self.new)
+            (counts_of_tries (view.meanings self.old) (view.stands self.old s.now) variants.now) }
         ensures out_numbers { view.out_numbers self.new ≡ view.out_numbers self.old }
         ensures keeps { Keeps view self.old self.new [] };
 
@@ -112,16 +102,10 @@ pub trait Machine {
         requires room { (view.counts self.old).readied + (view.meanings self.old).weight c.now < 2 ^ 63 }
 
         ensures ready { OnOk result (view.is_ready self.new s.new c.now) }
-        ensures readied { OnOk result ((view.counts self.new).readied
-            ≡ (view.counts self.old).readied + (view.meanings self.old).weight c.now) }
-
-        // Whatever it answers, what it counts rises by at most that, and nothing else changes.
-        ensures readied_at_least { (view.counts self.old).readied ≤ (view.counts self.new).readied }
-        ensures readied_at_most { (view.counts self.new).readied ≤ (view.counts self.old).readied + (view.meanings self.old).weight c.now }
-        ensures tried { (view.counts self.new).tried ≡ (view.counts self.old).tried }
-        ensures applied { (view.counts self.new).applied ≡ (view.counts self.old).applied }
-        ensures weighed { (view.counts self.new).weighed ≡ (view.counts self.old).weighed }
-        ensures asks { (port : ℕ) → (view.counts self.new).asks port ≡ (view.counts self.old).asks port }
+        ensures counts { OnOk result (RoseBy (view.counts self.old) (view.counts self.new)
+            (counts_of_ready (view.meanings self.old) c.now)) }
+        ensures counts_within { RoseWithin (view.counts self.old) (view.counts self.new)
+            (counts_of_ready (view.meanings self.old) c.now) }
         ensures number { view.number s.new ≡ view.number s.old }
         ensures out { view.is_out self.new s.new }
         ensures state { view.stands self.new s.new ≡ view.stands self.old s.old }
@@ -140,11 +124,8 @@ pub trait Machine {
         requires room_to_weigh { (view.counts self.old).weighed + (view.meanings self.old).weight c < 2 ^ 63 }
 
         ensures after { view.stands self.new s.new ≡ (view.meanings self.old).after (view.stands self.old s.old) c }
-        ensures applied { (view.counts self.new).applied ≡ (view.counts self.old).applied + 1 }
-        ensures weighed { (view.counts self.new).weighed ≡ (view.counts self.old).weighed + (view.meanings self.old).weight c }
-        ensures tried { (view.counts self.new).tried ≡ (view.counts self.old).tried }
-        ensures readied { (view.counts self.new).readied ≡ (view.counts self.old).readied }
-        ensures asks { (port : ℕ) → (view.counts self.new).asks port ≡ (view.counts self.old).asks port }
+        ensures counts { RoseBy (view.counts self.old) (view.counts self.new)
+            (counts_of_apply (view.meanings self.old) c) }
         ensures number { view.number s.new ≡ view.number s.old }
         ensures out { view.is_out self.new s.new }
         ensures out_numbers { view.out_numbers self.new ≡ view.out_numbers self.old }

@@ -8,6 +8,7 @@ use am_lists::Items;
 use code_form::{Code, Instr, Operand, Place, Variants};
 use exec_core::{Analysis, Class, Machine, Meter, Split, Toy, Work, analyse};
 use member_sets::Members;
+use picker::{BreadthFirst, DepthFirst, Listed, Offer, Picker, SmallestFirst};
 use std::alloc::Global;
 use std::test::Fail;
 
@@ -111,6 +112,7 @@ fn run_toy(
     gains: Vec<u64>,
     table: &Variants,
     budget: u64,
+    picker: &mut Box<dyn Picker>,
 ) -> Result<Trial, OutOfMemory>
     requires some { 1 ≤ length gains.items }
     requires few { length gains.items ≤ 1000 }
@@ -120,7 +122,7 @@ fn run_toy(
     let mut toy = Toy::new(alloc, gains)?;
     let start = toy.start(alloc)?;
     let mut meter = Meter::new();
-    let analysis = analyse(alloc, &mut toy, table, start, budget, &mut meter)?;
+    let analysis = analyse(alloc, &mut toy, table, start, budget, picker, &mut meter)?;
     let Analysis {
         classes,
         splits,
@@ -162,48 +164,92 @@ fn has_split(trial: &Trial, at: usize, step: u64, parts: &[u32]) -> bool {
 }
 
 /// The worked example: the gains 1, 8, 2 and the five mutants.
-fn run_example(alloc: Global, budget: u64) -> Result<Trial, OutOfMemory>
+fn run_example(
+    alloc: Global,
+    budget: u64,
+    picker: &mut Box<dyn Picker>,
+) -> Result<Trial, OutOfMemory>
     requires { budget ≤ 10000000 }
 {
     let code = plain_code(alloc, 3)?;
     let table = five_mutants(alloc, &code)?;
-    run_toy(alloc, [1, 8, 2].to_vec(alloc)?, &table, budget)
+    run_toy(alloc, [1, 8, 2].to_vec(alloc)?, &table, budget, picker)
 }
 
 /// 1,000 mutants over 1,000 gains.
-fn run_thousand(alloc: Global) -> Result<Trial, OutOfMemory> {
+fn run_thousand(alloc: Global, picker: &mut Box<dyn Picker>) -> Result<Trial, OutOfMemory> {
     let code = plain_code(alloc, 1000)?;
     let table = thousand_mutants(alloc, &code)?;
-    run_toy(alloc, late_gains(alloc)?, &table, 1000)
+    run_toy(alloc, late_gains(alloc)?, &table, 1000, picker)
+}
+
+/// Whether this is what the worked example comes to within a budget of 3.
+fn is_within_three(trial: &Trial) -> bool {
+    let work = trial.work;
+    (work.steps, work.alone, work.tries, work.executions) == (7, 15, 8, 3)
+        && (trial.tried, trial.applied, trial.weighed, trial.asked) == (8, 7, 5, 3)
+        && (trial.metered, trial.classes.len(), trial.splits.len()) == (7, 3, 2)
+        && has_class(trial, 0, &[0, 2], 3)
+        && has_class(trial, 1, &[1], 3)
+        && has_class(trial, 2, &[3, 4], 3)
+        && has_split(trial, 0, 0, &[0, 1])
+        && has_split(trial, 1, 2, &[0, 3])
+}
+
+/// A picker that takes the first execution each time. Its name tells whether it was asked five
+/// times.
+#[derive(Drop)]
+struct Asked {
+    times: u64,
+}
+
+impl Picker for Asked {
+    ghost use Rattle.std.specs.Prelude.{codes, ◌≡◌, ◌==◌, if◌then◌else◌};
+
+    ghost named = { λ picker. if picker.times == 5 then codes "five" else codes "other" };
+
+    ghost picks = { λ picker live at. at ≡ 0 };
+
+    fn name(&self) -> &str {
+        if self.times == 5 { "five" } else { "other" }
+    }
+
+    fn pick(&mut self, _live: &[Offer]) -> usize {
+        if self.times < 1000 {
+            self.times += 1;
+        }
+        0
+    }
 }
 
 #[test]
-fn five_mutants_within_three(rt: HostRuntime) -> Result<(), Fail> {
-    let trial = run_example(rt.alloc(), 3)?;
-    let work = trial.work;
-    assert_eq!(rt;
-        (work.steps, work.alone, work.tries, work.executions),
-        (7, 15, 8, 3)
-    );
-    assert_eq!(rt;
-        (trial.tried, trial.applied, trial.weighed, trial.asked),
-        (8, 7, 5, 3)
-    );
-    assert_eq!(rt;
-        (trial.metered, trial.classes.len(), trial.splits.len()),
-        (7, 3, 2)
-    );
-    assert!(rt; has_class(&trial, 0, &[0, 2], 3));
-    assert!(rt; has_class(&trial, 1, &[1], 3));
-    assert!(rt; has_class(&trial, 2, &[3, 4], 3));
-    assert!(rt; has_split(&trial, 0, 0, &[0, 1]));
-    assert!(rt; has_split(&trial, 1, 2, &[0, 3]));
+fn five_mutants_in_any_order(rt: HostRuntime) -> Result<(), Fail> {
+    let mut depth: Box<dyn Picker> = Box::new(rt.alloc(), DepthFirst::new())?;
+    assert!(rt; is_within_three(&run_example(rt.alloc(), 3, &mut depth)?));
+    let mut breadth: Box<dyn Picker> = Box::new(rt.alloc(), BreadthFirst::new())?;
+    assert!(rt; is_within_three(&run_example(rt.alloc(), 3, &mut breadth)?));
+    let mut smallest: Box<dyn Picker> = Box::new(rt.alloc(), SmallestFirst::new())?;
+    assert!(rt; is_within_three(&run_example(rt.alloc(), 3, &mut smallest)?));
+    let picks = [1, 1, 0, 2].to_vec(rt.alloc())?;
+    let mut listed: Box<dyn Picker> = Box::new(rt.alloc(), Listed::new(picks))?;
+    assert!(rt; is_within_three(&run_example(rt.alloc(), 3, &mut listed)?));
+    Ok(())
+}
+
+#[test]
+fn picker_is_asked_once_a_turn(rt: HostRuntime) -> Result<(), Fail> {
+    // One execution at step 0, two at 1, the first again at 2, where its parts end; the other at 1
+    // and 2.
+    let mut asked: Box<dyn Picker> = Box::new(rt.alloc(), Asked { times: 0 })?;
+    assert!(rt; is_within_three(&run_example(rt.alloc(), 3, &mut asked)?));
+    assert_eq!(rt; asked.name(), "five");
     Ok(())
 }
 
 #[test]
 fn five_mutants_within_two(rt: HostRuntime) -> Result<(), Fail> {
-    let trial = run_example(rt.alloc(), 2)?;
+    let mut picker: Box<dyn Picker> = Box::new(rt.alloc(), DepthFirst::new())?;
+    let trial = run_example(rt.alloc(), 2, &mut picker)?;
     let work = trial.work;
     assert_eq!(rt;
         (work.steps, work.alone, work.tries, work.executions),
@@ -228,7 +274,8 @@ fn thousand_mutants_within_a_thousand(rt: HostRuntime) -> Result<(), Fail> {
     // A replacement at a place with a gain of 8 makes the change of the original, so mutants 0 to 899 stay together: 1,000 steps. Mutant m from
     // 900 on parts at place m and makes 1,000 - m changes of its own, each of them 1: 5,050 more. At each place from 1 on mutant 0's execution
     // tries two variants, and the others try one a step: 1 + 1,998 + 4,950. Variant 1 is tried 999 times.
-    let trial = run_thousand(rt.alloc())?;
+    let mut picker: Box<dyn Picker> = Box::new(rt.alloc(), BreadthFirst::new())?;
+    let trial = run_thousand(rt.alloc(), &mut picker)?;
     let work = trial.work;
     assert_eq!(rt;
         (work.steps, work.alone, work.tries, work.executions),

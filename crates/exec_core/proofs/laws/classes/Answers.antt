@@ -1,5 +1,5 @@
 use Rattle.traces.proofs.Together.{AreTogether-from, together_from, both_go_on}
-use Rattle.exec_core.proofs.EndLemmas.{together_at_start, same_trace_is}
+use Rattle.traces.proofs.WholeTraces.{together_at_start, same_trace_is}
 use Rattle.exec_core.proofs.laws.classes.Goals as goal
 
 pub returns-clause-together : goal.returns-clause-together

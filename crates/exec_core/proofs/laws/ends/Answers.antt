@@ -2,7 +2,7 @@ use Rattle.std.proofs.Common.{get_or}
 use Rattle.traces.specs.Configuration.{run, opening}
 use Rattle.traces.proofs.Turns.{run_keeps, opening_is}
 use Rattle.traces.proofs.Ends.{ended_count}
-use Rattle.exec_core.proofs.EndLemmas.{ended_is}
+use Rattle.traces.proofs.WholeTraces.{ended_is}
 use Rattle.exec_core.proofs.laws.ends.Goals as goal
 
 pub returns-clause-classes : goal.returns-clause-classes

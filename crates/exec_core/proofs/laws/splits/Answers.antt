@@ -1,4 +1,4 @@
-use Rattle.exec_core.proofs.SplitLemmas.{split_is, split_there, in_order}
+use Rattle.traces.proofs.AllSplits.{split_is, split_there, in_order}
 use Rattle.exec_core.proofs.laws.splits.Goals as goal
 
 pub returns-clause-exactly : goal.returns-clause-exactly

@@ -43,14 +43,14 @@ loop-piece-preserved g c =
       added = c.put.ensures.items ∙ ap (λ xs. xs ++ q ∷ []) i.added ∙ append_assoc c.args.lives.now.items i.made (q ∷ []);
       pieces = applying_more V g.met.M.Machine.lawful c.args.machine.now c.loop-piece.machine c.apply.new.self c.args.step c.args.pieces.now.items c.pop.new.self.items i.made p q b t;
       room = omega (arith, c.in-Some.ensures.cases, c.put.ensures.len, c.put.ensures.capacity);
-      applied = omega (arith, c.in-Some.ensures.cases, e.applied, i.applied);
+      applied = omega (arith, c.in-Some.ensures.cases, e.counts.applied, i.applied);
       weighed =
           (let A = V.meanings c.args.machine.now in
           let s = ap (weights_of A) c.in-Some.ensures.items ∙ sum_by_push (λ (x : Piece g.row.M-State.Denot g.row.M-Change.Denot). A.weight x.change) c.pop.new.self.items p in
           let w : (V.meanings c.loop-piece.machine).weight p.change ≡ A.weight p.change = ap (λ B. B.weight p.change) i.pieces.keeps.meanings in
-          omega (arith, e.weighed, i.weighed, s, w));
+          omega (arith, e.counts.weighed, i.weighed, s, w));
       meter = omega (arith, c.in-Some.ensures.cases, c.raise.ensures, i.meter);
-      tried = e.tried ∙ i.tried;
-      readied = e.readied ∙ i.readied;
-      asks = λ k. e.asks k ∙ i.asks k;
+      tried = omega (arith, e.counts.tried, i.tried);
+      readied = omega (arith, e.counts.readied, i.readied);
+      asks = λ k. omega (arith, e.counts.asks k, i.asks k);
     }

@@ -41,12 +41,12 @@ loop-piece-preserved g c =
           (let A = V.meanings c.args.machine.now in
           let s = ap (weights_of A) c.in-Some.ensures.items ∙ sum_by_push (λ (x : Piece g.row.M-State.Denot g.row.M-Change.Denot). A.weight x.change) c.pop.new.self.items p in
           let w : (V.meanings c.loop-piece.machine).weight p.change ≡ A.weight p.change = ap (λ B. B.weight p.change) i.pieces.keeps.meanings in
-          omega (arith, e.readied, i.readied, s, w));
-      at_least = omega (arith, e.readied_at_least, i.at_least);
-      tried = e.tried ∙ i.tried;
-      applied = e.applied ∙ i.applied;
-      weighed = e.weighed ∙ i.weighed;
-      asks = λ k. e.asks k ∙ i.asks k;
+          omega (arith, e.counts.readied, i.readied, s, w));
+      at_least = omega (arith, e.counts.readied, i.at_least);
+      tried = omega (arith, e.counts.tried, i.tried);
+      applied = omega (arith, e.counts.applied, i.applied);
+      weighed = omega (arith, e.counts.weighed, i.weighed);
+      asks = λ k. omega (arith, e.counts.asks k, i.asks k);
     }
 
 pub returns-in-Err-clause-pieces : goal.returns-in-Err-clause-pieces
@@ -67,3 +67,25 @@ returns-in-Err-clause-pieces g c =
     subst (λ xs. AreReadying V c.args.machine.now c.loop-piece.machine c.args.pieces.now.items xs c.loop-piece.readied.items) c.in-Some.ensures.items i.pieces in
     subst (λ xs. AreReadying V c.args.machine.now c.ready.new.self c.args.pieces.now.items xs c.loop-piece.readied.items) (sym c.put-in-Err.ensures.items)
     (readying_back V g.met.M.Machine.lawful c.args.machine.now c.loop-piece.machine c.ready.new.self c.args.pieces.now.items c.pop.new.self.items c.loop-piece.readied.items p q b t e.out_numbers)
+
+pub returns-in-Err-clause-count_at_least : goal.returns-in-Err-clause-count_at_least
+returns-in-Err-clause-count_at_least g c = omega (arith, c.ready.ensures.counts_within.readied.least, c.loop-piece.invariant.at_least)
+
+pub returns-in-Err-clause-count_at_most : goal.returns-in-Err-clause-count_at_most
+returns-in-Err-clause-count_at_most g c =
+    let V = g.M.Machine.view in let i = c.loop-piece.invariant in let A = V.meanings c.args.machine.now in let p = c.in-Some.piece in
+    let s = ap (weights_of A) c.in-Some.ensures.items ∙ sum_by_push (λ (x : Piece g.row.M-State.Denot g.row.M-Change.Denot). A.weight x.change) c.pop.new.self.items p in
+    let w : (V.meanings c.loop-piece.machine).weight p.change ≡ A.weight p.change = ap (λ B. B.weight p.change) i.pieces.keeps.meanings in
+    omega (arith, c.ready.ensures.counts_within.readied.most, i.readied, s, w)
+
+pub returns-in-Err-clause-tried : goal.returns-in-Err-clause-tried
+returns-in-Err-clause-tried g c = let w = c.ready.ensures.counts_within.tried in omega (arith, w.least, w.most, c.loop-piece.invariant.tried)
+
+pub returns-in-Err-clause-applied : goal.returns-in-Err-clause-applied
+returns-in-Err-clause-applied g c = let w = c.ready.ensures.counts_within.applied in omega (arith, w.least, w.most, c.loop-piece.invariant.applied)
+
+pub returns-in-Err-clause-weighed : goal.returns-in-Err-clause-weighed
+returns-in-Err-clause-weighed g c = let w = c.ready.ensures.counts_within.weighed in omega (arith, w.least, w.most, c.loop-piece.invariant.weighed)
+
+pub returns-in-Err-clause-asks : goal.returns-in-Err-clause-asks
+returns-in-Err-clause-asks g c p = let w = c.ready.ensures.counts_within.asks p in omega (arith, w.least, w.most, c.loop-piece.invariant.asks p)

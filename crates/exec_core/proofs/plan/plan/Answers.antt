@@ -7,7 +7,8 @@ use Rattle.traces.specs.Configuration.{same_change, is_leader}
 use Rattle.traces.proofs.Steps.{length_map}
 use Rattle.change_classes.specs.First.{first_equal}
 use Rattle.exec_core.specs.Lives.{execution_of}
-use Rattle.exec_core.specs.Plans.{trial_of, own_firsts}
+use Rattle.exec_core.specs.Plans.{own_firsts}
+use Rattle.code_form.specs.Trial.{trial_of}
 use Rattle.exec_core.specs.ClassTable.{HasClasses}
 use Rattle.exec_core.proofs.Holding.{All-from_contains}
 use Rattle.exec_core.proofs.PlanLemmas.{within_table, parts_planned, changes_planned, planned}

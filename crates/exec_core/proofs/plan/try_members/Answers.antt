@@ -3,9 +3,7 @@ use Rattle.std.specs.List.{All, filter}
 use Rattle.std.proofs.lemmas.List.Elements.{All-map}
 use Rattle.code_form.specs.Variant.{Table, variant_of}
 use Rattle.member_sets.specs.Members.{is_least}
-use Rattle.traces.specs.Meanings.{total_toll}
-use Rattle.exec_core.specs.Counted.{RoseBy, RoseWithin}
-use Rattle.exec_core.proofs.CountLemmas.{tries_alone, tries_within, tries_by}
+use Rattle.traces.specs.Counts.{RoseBy, RoseWithin, counts_of_tries}
 use Rattle.exec_core.proofs.Holding.{All-from_contains}
 use Rattle.exec_core.proofs.TriedLemmas.{few_firsts}
 use Rattle.exec_core.proofs.plan.try_members.Goals as goal
@@ -47,8 +45,7 @@ returns-in_err-tries-clause-counts_within g c start budget =
     let a = V.counts c.args.machine.now in let b = V.counts c.tries.new.self in let t = c.tries.ensures in
     let h = c.deref.ensures.value ∙ at_place c.args.table.now c.place-place.result.0 p c.as_slice.result.now c.args.e.now.members c.in_ok-variants.variants.items
     (c.as_slice.ensures ∙ c.in_ok-members.ensures.members) c.place-place.ensures c.in_ok-variants.ensures.variants in
-    subst (λ vs. RoseWithin a b (tries_alone a b (length vs) (λ port. total_toll A port w vs))) h
-    (tries_within a b (length c.deref.result.now) (λ port. total_toll A port w c.deref.result.now) t.applied t.weighed t.readied t.tried_at_least t.tried_at_most t.asks_at_least t.asks_at_most)
+    subst (λ vs. RoseWithin a b (counts_of_tries A w vs)) h t.counts_within
 
 pub returns-clause-counts_within : goal.returns-clause-counts_within
 returns-clause-counts_within g c start budget =
@@ -56,8 +53,7 @@ returns-clause-counts_within g c start budget =
     let a = V.counts c.args.machine.now in let b = V.counts c.tries.new.self in let t = c.tries.ensures in
     let h = c.deref.ensures.value ∙ at_place c.args.table.now c.place-place.result.0 p c.as_slice.result.now c.args.e.now.members c.in_ok-variants.variants.items
     (c.as_slice.ensures ∙ c.in_ok-members.ensures.members) c.place-place.ensures c.in_ok-variants.ensures.variants in
-    subst (λ vs. RoseWithin a b (tries_alone a b (length vs) (λ port. total_toll A port w vs))) h
-    (tries_within a b (length c.deref.result.now) (λ port. total_toll A port w c.deref.result.now) t.applied t.weighed t.readied t.tried_at_least t.tried_at_most t.asks_at_least t.asks_at_most)
+    subst (λ vs. RoseWithin a b (counts_of_tries A w vs)) h t.counts_within
 
 pub returns-clause-counts : goal.returns-clause-counts
 returns-clause-counts g c start budget =
@@ -65,8 +61,7 @@ returns-clause-counts g c start budget =
     let a = V.counts c.args.machine.now in let b = V.counts c.tries.new.self in let t = c.in_ok-tries.ensures in
     let h = c.deref.ensures.value ∙ at_place c.args.table.now c.place-place.result.0 p c.as_slice.result.now c.args.e.now.members c.in_ok-variants.variants.items
     (c.as_slice.ensures ∙ c.in_ok-members.ensures.members) c.place-place.ensures c.in_ok-variants.ensures.variants in
-    subst (λ vs. RoseBy a b (tries_alone a b (length vs) (λ port. total_toll A port w vs))) h
-    (tries_by a b (length c.deref.result.now) (λ port. total_toll A port w c.deref.result.now) t.applied t.weighed t.readied t.tried t.asks)
+    subst (λ vs. RoseBy a b (counts_of_tries A w vs)) h t.counts
 
 pub returns-clause-variants : goal.returns-clause-variants
 returns-clause-variants g c start budget =

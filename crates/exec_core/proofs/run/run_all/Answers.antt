@@ -1,49 +1,15 @@
-use Rattle.std.proofs.Common.{arith, ap, ◌∙◌, subst}
+use Rattle.std.proofs.Common.{rules, ◌≡◌, ◌<◌, ◌==◌, false, vec_len, arith, ap, ◌∙◌, subst}
+use Rattle.std.proofs.lemmas.Bool.Decides.{nat_tests}
+use Rattle.std.proofs.lemmas.List.Sorted.{length_permutation}
 use Rattle.code_form.specs.Variant.{variant_of}
 use Rattle.traces.specs.Meanings.{Meanings}
-use Rattle.exec_core.specs.Plans.{trial_of}
+use Rattle.code_form.specs.Trial.{trial_of}
 use Rattle.exec_core.specs.Turned.{Turned, Refused}
 use Rattle.exec_core.proofs.GoingLemmas.{going_more, closer, owed, refused_stops, none_opened, room_left, meter_left, tries_left, alone_left, are_held}
 use Rattle.exec_core.proofs.TurnLemmas.{on_err}
+use Rattle.exec_core.proofs.PickLemmas.{going_arranged, as_far}
+use Rattle.exec_core.proofs.EndingLemmas.{going_stops}
 use Rattle.exec_core.proofs.run.run_all.Goals as goal
-
-pub turn-requires-clause-held : goal.turn-requires-clause-held
-turn-requires-clause-held g c = are_held g.M.Machine.view g.met.M.Machine.lawful c.args.machine.now c.loop-at.machine c.args.table.now (g.M.Machine.view.stands c.args.machine.now c.args.start) c.args.budget (g.M.Machine.view.number c.args.start) c.loop-at.engine c.args.meter.now c.loop-at.meter c.in_ok-open.ensures.few c.requires.budget c.requires.known c.loop-at.invariant.going (g.met.M.Machine.lawful.among c.args.machine.now c.args.start c.requires.out)
-
-pub turn-requires-clause-at : goal.turn-requires-clause-at
-turn-requires-clause-at g c = omega (arith, c.in-Some.ensures.within, c.deref.ensures.len)
-
-pub turn-requires-clause-known : goal.turn-requires-clause-known
-turn-requires-clause-known g c m p = ap (λ (A : Meanings g.M.Machine.Meaning g.row.M-Change.Denot). A.knows p (variant_of c.args.table.now m p)) c.loop-at.invariant.going.keeps.meanings ∙ c.requires.known m p
-
-pub turn-requires-clause-room : goal.turn-requires-clause-room
-turn-requires-clause-room g c = room_left g.M.Machine.view g.met.M.Machine.lawful c.args.machine.now c.loop-at.machine c.args.table.now (g.M.Machine.view.stands c.args.machine.now c.args.start) c.args.budget (g.M.Machine.view.number c.args.start) c.loop-at.engine c.args.meter.now c.loop-at.meter c.in_ok-open.ensures.few c.requires.budget c.requires.known c.loop-at.invariant.going c.requires.room
-
-pub turn-requires-clause-room_to_count : goal.turn-requires-clause-room_to_count
-turn-requires-clause-room_to_count g c = meter_left g.M.Machine.view g.met.M.Machine.lawful c.args.machine.now c.loop-at.machine c.args.table.now (g.M.Machine.view.stands c.args.machine.now c.args.start) c.args.budget (g.M.Machine.view.number c.args.start) c.loop-at.engine c.args.meter.now c.loop-at.meter c.in_ok-open.ensures.few c.requires.budget c.requires.known c.loop-at.invariant.going c.requires.room_to_count
-
-pub turn-requires-clause-tries : goal.turn-requires-clause-tries
-turn-requires-clause-tries g c = tries_left g.M.Machine.view g.met.M.Machine.lawful c.args.machine.now c.loop-at.machine c.args.table.now (g.M.Machine.view.stands c.args.machine.now c.args.start) c.args.budget (g.M.Machine.view.number c.args.start) c.loop-at.engine c.args.meter.now c.loop-at.meter c.in_ok-open.ensures.few c.requires.budget c.requires.known c.loop-at.invariant.going
-
-pub turn-requires-clause-alone : goal.turn-requires-clause-alone
-turn-requires-clause-alone g c = alone_left g.M.Machine.view g.met.M.Machine.lawful c.args.machine.now c.loop-at.machine c.args.table.now (g.M.Machine.view.stands c.args.machine.now c.args.start) c.args.budget (g.M.Machine.view.number c.args.start) c.loop-at.engine c.args.meter.now c.loop-at.meter c.in_ok-open.ensures.few c.requires.budget c.requires.known c.loop-at.invariant.going
-
-pub loop-at-preserved : goal.loop-at-preserved
-loop-at-preserved g c = record {
-  going = going_more g.M.Machine.view g.met.M.Machine.lawful c.args.machine.now c.loop-at.machine c.args.table.now (g.M.Machine.view.stands c.args.machine.now c.args.start) c.args.budget (g.M.Machine.view.number c.args.start) c.loop-at.engine c.args.meter.now c.loop-at.meter c.in_ok-open.ensures.few c.requires.budget c.requires.known c.loop-at.invariant.going (g.met.M.Machine.lawful.among c.args.machine.now c.args.start c.requires.out) c.turn.new.machine c.in-Some.at c.turn.new.engine c.turn.new.meter c.in_ok-turn.ensures.held c.in_ok-turn.ensures.keeps
-      (subst (λ (A : Meanings g.M.Machine.Meaning g.row.M-Change.Denot). Turned g.M.Machine.view (trial_of A c.args.table.now (g.M.Machine.view.stands c.args.machine.now c.args.start) c.args.budget) c.loop-at.machine c.turn.new.machine c.in-Some.at c.loop-at.engine c.turn.new.engine c.loop-at.meter c.turn.new.meter)
-      c.loop-at.invariant.going.keeps.meanings (c.in_ok-turn.ensures.turned (g.M.Machine.view.stands c.args.machine.now c.args.start)));
-  idle = c.in_ok-turn.ensures.idle;
-}
-
-pub loop-at-smaller : goal.loop-at-smaller
-loop-at-smaller g c =
-    let V = g.M.Machine.view in
-    let e = (subst (λ (A : Meanings g.M.Machine.Meaning g.row.M-Change.Denot). Turned g.M.Machine.view (trial_of A c.args.table.now (g.M.Machine.view.stands c.args.machine.now c.args.start) c.args.budget) c.loop-at.machine c.turn.new.machine c.in-Some.at c.loop-at.engine c.turn.new.engine c.loop-at.meter c.turn.new.meter)
-    c.loop-at.invariant.going.keeps.meanings (c.in_ok-turn.ensures.turned (g.M.Machine.view.stands c.args.machine.now c.args.start))) in
-    let l = closer g.M.Machine.view g.met.M.Machine.lawful c.args.machine.now c.loop-at.machine c.args.table.now (g.M.Machine.view.stands c.args.machine.now c.args.start) c.args.budget (g.M.Machine.view.number c.args.start) c.loop-at.engine c.args.meter.now c.loop-at.meter c.in_ok-open.ensures.few c.requires.budget c.requires.known c.loop-at.invariant.going (g.met.M.Machine.lawful.among c.args.machine.now c.args.start c.requires.out) c.turn.new.machine c.in-Some.at c.turn.new.engine c.turn.new.meter c.in_ok-turn.ensures.held c.in_ok-turn.ensures.keeps e in
-    let o = owed g.M.Machine.view g.met.M.Machine.lawful c.args.machine.now c.loop-at.machine c.args.table.now (g.M.Machine.view.stands c.args.machine.now c.args.start) c.args.budget (g.M.Machine.view.number c.args.start) c.loop-at.engine c.args.meter.now c.loop-at.meter c.in_ok-open.ensures.few c.requires.budget c.requires.known c.loop-at.invariant.going (g.met.M.Machine.lawful.among c.args.machine.now c.args.start c.requires.out) c.turn.new.machine c.in-Some.at c.turn.new.engine c.turn.new.meter c.in_ok-turn.ensures.held c.in_ok-turn.ensures.keeps e in
-    omega (arith, l, o)
 
 pub returns-in_err-open-clause-stopped : goal.returns-in_err-open-clause-stopped
 returns-in_err-open-clause-stopped g c =
@@ -51,9 +17,89 @@ returns-in_err-open-clause-stopped g c =
     on_err c.from_residual.result
     (none_opened g.M.Machine.view g.met.M.Machine.lawful c.args.machine.now c.args.table.now c.args.start c.args.budget c.open.new.engine c.args.meter.now c.open.new.machine e.err e.counts e.err_lives e.err_ended)
 
-pub returns-in_err-turn-clause-stopped : goal.returns-in_err-turn-clause-stopped
-returns-in_err-turn-clause-stopped g c =
-    on_err c.from_residual-in_err-turn.result
-    (refused_stops g.M.Machine.view g.met.M.Machine.lawful c.args.machine.now c.loop-at.machine c.args.table.now (g.M.Machine.view.stands c.args.machine.now c.args.start) c.args.budget (g.M.Machine.view.number c.args.start) c.loop-at.engine c.args.meter.now c.loop-at.meter c.in_ok-open.ensures.few c.requires.budget c.requires.known c.loop-at.invariant.going (g.met.M.Machine.lawful.among c.args.machine.now c.args.start c.requires.out) c.turn.new.machine c.in-Some.at c.turn.new.engine c.turn.new.meter c.in_err-turn.ensures.held c.in_err-turn.ensures.keeps
-    (subst (λ (A : Meanings g.M.Machine.Meaning g.row.M-Change.Denot). Refused g.M.Machine.view (trial_of A c.args.table.now (g.M.Machine.view.stands c.args.machine.now c.args.start) c.args.budget) c.loop-at.machine c.turn.new.machine c.in-Some.at c.loop-at.engine c.turn.new.engine c.loop-at.meter c.turn.new.meter)
-    c.loop-at.invariant.going.keeps.meanings (c.in_err-turn.ensures.refused (g.M.Machine.view.stands c.args.machine.now c.args.start))))
+pub take_turn-requires-clause-held : goal.take_turn-requires-clause-held
+take_turn-requires-clause-held g c =
+    let V = g.M.Machine.view in let m = c.args.machine.now in let w = V.stands m c.args.start in let n = V.number c.args.start in let i = c.turns in
+    let go = going_arranged V (trial_of (V.meanings m) c.args.table.now w c.args.budget) m i.machine n c.args.meter.now i.meter i.engine c.arrange.new.engine c.arrange.ensures.arranged i.invariant.going in
+    are_held V g.met.M.Machine.lawful m i.machine c.args.table.now w c.args.budget n c.arrange.new.engine c.args.meter.now i.meter c.in_ok-open.ensures.few c.requires.budget c.requires.known go (g.met.M.Machine.lawful.among m c.args.start c.requires.out)
+
+pub take_turn-requires-clause-some : goal.take_turn-requires-clause-some
+take_turn-requires-clause-some g c =
+    let E = c.turns.engine in let F = c.arrange.new.engine in
+    let none : (vec_len E.lives == 0) ≡ false = search rules in
+    let some : 0 < vec_len E.lives = grind (arith, nat_tests) in
+    let same = length_permutation E.lives.items F.lives.items c.arrange.ensures.arranged.moved in
+    omega (arith, some, same, E.lives.ok.0, F.lives.ok.0)
+
+pub take_turn-requires-clause-idle : goal.take_turn-requires-clause-idle
+take_turn-requires-clause-idle g c =
+    let V = g.M.Machine.view in let m = c.args.machine.now in let w = V.stands m c.args.start in let n = V.number c.args.start in let i = c.turns in
+    let go = going_arranged V (trial_of (V.meanings m) c.args.table.now w c.args.budget) m i.machine n c.args.meter.now i.meter i.engine c.arrange.new.engine c.arrange.ensures.arranged i.invariant.going in
+    c.arrange.ensures.arranged.idle i.invariant.idle
+
+pub take_turn-requires-clause-known : goal.take_turn-requires-clause-known
+take_turn-requires-clause-known g c m p = ap (λ (A : Meanings g.M.Machine.Meaning g.row.M-Change.Denot). A.knows p (variant_of c.args.table.now m p)) c.turns.invariant.going.keeps.meanings ∙ c.requires.known m p
+
+pub take_turn-requires-clause-room : goal.take_turn-requires-clause-room
+take_turn-requires-clause-room g c =
+    let V = g.M.Machine.view in let m = c.args.machine.now in let w = V.stands m c.args.start in let n = V.number c.args.start in let i = c.turns in
+    let go = going_arranged V (trial_of (V.meanings m) c.args.table.now w c.args.budget) m i.machine n c.args.meter.now i.meter i.engine c.arrange.new.engine c.arrange.ensures.arranged i.invariant.going in
+    room_left V g.met.M.Machine.lawful m i.machine c.args.table.now w c.args.budget n c.arrange.new.engine c.args.meter.now i.meter c.in_ok-open.ensures.few c.requires.budget c.requires.known go c.requires.room
+
+pub take_turn-requires-clause-room_to_count : goal.take_turn-requires-clause-room_to_count
+take_turn-requires-clause-room_to_count g c =
+    let V = g.M.Machine.view in let m = c.args.machine.now in let w = V.stands m c.args.start in let n = V.number c.args.start in let i = c.turns in
+    let go = going_arranged V (trial_of (V.meanings m) c.args.table.now w c.args.budget) m i.machine n c.args.meter.now i.meter i.engine c.arrange.new.engine c.arrange.ensures.arranged i.invariant.going in
+    meter_left V g.met.M.Machine.lawful m i.machine c.args.table.now w c.args.budget n c.arrange.new.engine c.args.meter.now i.meter c.in_ok-open.ensures.few c.requires.budget c.requires.known go c.requires.room_to_count
+
+pub take_turn-requires-clause-tries : goal.take_turn-requires-clause-tries
+take_turn-requires-clause-tries g c =
+    let V = g.M.Machine.view in let m = c.args.machine.now in let w = V.stands m c.args.start in let n = V.number c.args.start in let i = c.turns in
+    let go = going_arranged V (trial_of (V.meanings m) c.args.table.now w c.args.budget) m i.machine n c.args.meter.now i.meter i.engine c.arrange.new.engine c.arrange.ensures.arranged i.invariant.going in
+    tries_left V g.met.M.Machine.lawful m i.machine c.args.table.now w c.args.budget n c.arrange.new.engine c.args.meter.now i.meter c.in_ok-open.ensures.few c.requires.budget c.requires.known go
+
+pub take_turn-requires-clause-alone : goal.take_turn-requires-clause-alone
+take_turn-requires-clause-alone g c =
+    let V = g.M.Machine.view in let m = c.args.machine.now in let w = V.stands m c.args.start in let n = V.number c.args.start in let i = c.turns in
+    let go = going_arranged V (trial_of (V.meanings m) c.args.table.now w c.args.budget) m i.machine n c.args.meter.now i.meter i.engine c.arrange.new.engine c.arrange.ensures.arranged i.invariant.going in
+    alone_left V g.met.M.Machine.lawful m i.machine c.args.table.now w c.args.budget n c.arrange.new.engine c.args.meter.now i.meter c.in_ok-open.ensures.few c.requires.budget c.requires.known go
+
+pub turns-preserved : goal.turns-preserved
+turns-preserved g c =
+    let V = g.M.Machine.view in let m = c.args.machine.now in let w = V.stands m c.args.start in let n = V.number c.args.start in let i = c.turns in
+    let go = going_arranged V (trial_of (V.meanings m) c.args.table.now w c.args.budget) m i.machine n c.args.meter.now i.meter i.engine c.arrange.new.engine c.arrange.ensures.arranged i.invariant.going in
+    let t = c.in_ok-take_turn.ensures.took w in
+    let turned = subst (λ (A : Meanings g.M.Machine.Meaning g.row.M-Change.Denot). Turned V (trial_of A c.args.table.now w c.args.budget) i.machine c.take_turn.new.machine t.at c.arrange.new.engine c.take_turn.new.engine i.meter c.take_turn.new.meter)
+    i.invariant.going.keeps.meanings t.turned in
+    record { going = going_more V g.met.M.Machine.lawful m i.machine c.args.table.now w c.args.budget n c.arrange.new.engine c.args.meter.now i.meter c.in_ok-open.ensures.few c.requires.budget c.requires.known go (g.met.M.Machine.lawful.among m c.args.start c.requires.out) c.take_turn.new.machine t.at c.take_turn.new.engine c.take_turn.new.meter c.in_ok-take_turn.ensures.held c.in_ok-take_turn.ensures.keeps turned; idle = c.in_ok-take_turn.ensures.idle }
+
+pub turns-smaller : goal.turns-smaller
+turns-smaller g c =
+    let V = g.M.Machine.view in let m = c.args.machine.now in let w = V.stands m c.args.start in let n = V.number c.args.start in let i = c.turns in
+    let go = going_arranged V (trial_of (V.meanings m) c.args.table.now w c.args.budget) m i.machine n c.args.meter.now i.meter i.engine c.arrange.new.engine c.arrange.ensures.arranged i.invariant.going in
+    let t = c.in_ok-take_turn.ensures.took w in
+    let turned = subst (λ (A : Meanings g.M.Machine.Meaning g.row.M-Change.Denot). Turned V (trial_of A c.args.table.now w c.args.budget) i.machine c.take_turn.new.machine t.at c.arrange.new.engine c.take_turn.new.engine i.meter c.take_turn.new.meter)
+    i.invariant.going.keeps.meanings t.turned in
+    let l = closer V g.met.M.Machine.lawful m i.machine c.args.table.now w c.args.budget n c.arrange.new.engine c.args.meter.now i.meter c.in_ok-open.ensures.few c.requires.budget c.requires.known go (g.met.M.Machine.lawful.among m c.args.start c.requires.out) c.take_turn.new.machine t.at c.take_turn.new.engine c.take_turn.new.meter c.in_ok-take_turn.ensures.held c.in_ok-take_turn.ensures.keeps turned in let o = owed V g.met.M.Machine.lawful m i.machine c.args.table.now w c.args.budget n c.arrange.new.engine c.args.meter.now i.meter c.in_ok-open.ensures.few c.requires.budget c.requires.known go (g.met.M.Machine.lawful.among m c.args.start c.requires.out) c.take_turn.new.machine t.at c.take_turn.new.engine c.take_turn.new.meter c.in_ok-take_turn.ensures.held c.in_ok-take_turn.ensures.keeps turned in
+    let s = as_far V (trial_of (V.meanings m) c.args.table.now w c.args.budget) m i.machine n c.args.meter.now i.meter i.engine c.arrange.new.engine c.arrange.ensures.arranged in
+    omega (arith, l, o, s)
+
+pub returns-in_err-arrange-clause-stopped : goal.returns-in_err-arrange-clause-stopped
+returns-in_err-arrange-clause-stopped g c =
+    let V = g.M.Machine.view in let m = c.args.machine.now in let w = V.stands m c.args.start in let n = V.number c.args.start in let i = c.turns in
+    let go = going_arranged V (trial_of (V.meanings m) c.args.table.now w c.args.budget) m i.machine n c.args.meter.now i.meter i.engine c.arrange.new.engine c.arrange.ensures.arranged i.invariant.going in
+    on_err c.from_residual-in_err-arrange.result
+    (going_stops V g.met.M.Machine.lawful m i.machine c.args.table.now w c.args.budget n c.arrange.new.engine c.args.meter.now i.meter go)
+
+pub returns-in_err-take_turn-clause-stopped : goal.returns-in_err-take_turn-clause-stopped
+returns-in_err-take_turn-clause-stopped g c =
+    let V = g.M.Machine.view in let m = c.args.machine.now in let w = V.stands m c.args.start in let n = V.number c.args.start in let i = c.turns in
+    let go = going_arranged V (trial_of (V.meanings m) c.args.table.now w c.args.budget) m i.machine n c.args.meter.now i.meter i.engine c.arrange.new.engine c.arrange.ensures.arranged i.invariant.going in
+    let r = c.in_err-take_turn.ensures.refused w in
+    on_err c.from_residual-in_err-take_turn.result
+    (refused_stops V g.met.M.Machine.lawful m i.machine c.args.table.now w c.args.budget n c.arrange.new.engine c.args.meter.now i.meter c.in_ok-open.ensures.few c.requires.budget c.requires.known go (g.met.M.Machine.lawful.among m c.args.start c.requires.out) c.take_turn.new.machine r.at c.take_turn.new.engine c.take_turn.new.meter c.take_turn.ensures.held c.take_turn.ensures.keeps
+    (subst (λ (A : Meanings g.M.Machine.Meaning g.row.M-Change.Denot). Refused V (trial_of A c.args.table.now w c.args.budget) i.machine c.take_turn.new.machine r.at c.arrange.new.engine c.take_turn.new.engine i.meter c.take_turn.new.meter)
+    i.invariant.going.keeps.meanings r.refused))
+
+pub returns-in_err-arrange-clause-idle : goal.returns-in_err-arrange-clause-idle
+returns-in_err-arrange-clause-idle g c = c.arrange.ensures.arranged.idle c.turns.invariant.idle

@@ -1,9 +1,9 @@
 use Rattle.std.proofs.Common.{arith, ◌∙◌}
-use Rattle.exec_core.specs.Plans.{trial_of}
+use Rattle.code_form.specs.Trial.{trial_of}
 use Rattle.traces.specs.Work.{splits}
 use Rattle.exec_core.proofs.EndingLemmas.{meter_rose, going_stops, all_counts, all_steps, all_tries, all_alone, all_executions, all_splits, are_classes, states_out, left_out, left_distinct_numbers, released, still_keeps}
-use Rattle.exec_core.proofs.CountLemmas.{within_still}
-use Rattle.exec_core.proofs.SplitLemmas.{in_order}
+use Rattle.traces.proofs.Rises.{within_still}
+use Rattle.traces.proofs.AllSplits.{in_order}
 use Rattle.exec_core.proofs.shared_run.analyse.Goals as goal
 
 pub overflow_sub-steps : goal.overflow_sub-steps

@@ -1,7 +1,7 @@
 use Rattle.std.proofs.Common.{List, [], ◌∷◌, ◌++◌, map, length, nat_lt, if◌then◌else◌, slice_index, arith, ap, ◌∙◌}
 use Rattle.exec_core.specs.Engines.{split_seen}
 use Rattle.exec_core.specs.Lives.{execution_of}
-use Rattle.exec_core.specs.Plans.{trial_of}
+use Rattle.code_form.specs.Trial.{trial_of}
 use Rattle.exec_core.specs.declared.plans.Plan.{Plan}
 use Rattle.exec_core.proofs.PlannedLemmas.{some_plan, few_plans, known_plans, light_plans, split_is}
 use Rattle.exec_core.proofs.turn.plan_turn.Goals as goal

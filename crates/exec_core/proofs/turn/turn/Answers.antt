@@ -11,7 +11,8 @@ use Rattle.exec_core.specs.Counted.{weight_of_turn}
 use Rattle.exec_core.specs.Engines.{split_seen}
 use Rattle.exec_core.specs.Lives.{execution_of, live_numbers}
 use Rattle.exec_core.proofs.Holding.{nowhere, keeps_none, keeps_more}
-use Rattle.exec_core.specs.Plans.{plans_of, plan_weights, trial_of}
+use Rattle.exec_core.specs.Plans.{plans_of, plan_weights}
+use Rattle.code_form.specs.Trial.{trial_of}
 use Rattle.exec_core.specs.Divided.{child_of}
 use Rattle.exec_core.specs.Turned.{executions_of, IsHeld, Advanced}
 use Rattle.exec_core.proofs.TurnLemmas.{on_err, taken_out, at_index, e_out, e_live, e_below, keeps_all, stayed, back_before, advanced_before, was_moved, same_executions, held_back, turned_executions, held_on}

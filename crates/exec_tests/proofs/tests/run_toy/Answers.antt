@@ -10,7 +10,7 @@ use Rattle.exec_tests.proofs.tests.run_toy.Goals as goal
 
 -- the states out are those of the classes, and no other
 pub release_all-requires-clause-distinct : goal.release_all-requires-clause-distinct
-release_all-requires-clause-distinct c =
+release_all-requires-clause-distinct g c =
     let n = c.in_ok-start.start.number in let cs : List ℕ = class_numbers toy_view c.in_ok-analysis.analysis.classes in
     let one = c.start.new.self.out.items in let out = c.analyse.new.machine.out.items in
     let started : IsPermutation (n ∷ []) one = subst (λ xs. IsPermutation (n ∷ xs) one) c.in_ok-toy.ensures.none_out c.in_ok-start.ensures.out_numbers in
