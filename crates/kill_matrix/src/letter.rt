@@ -1,7 +1,10 @@
-ghost use Rattle.std.specs.Prelude.{◌≡◌, ◌↔◌, IsTrue};
+//! The letters of a report, and the verdict on a run.
+
+ghost use Rattle.std.specs.Prelude.{◌≡◌};
 ghost use Rattle.kill_matrix.specs.Verdict.{IsVerdict, byte_of, kills};
 
 use am_base::{Ending, Outcome};
+use am_lists::Same;
 
 /// How a mutant's outcome on a test compares with the expected one.
 #[derive(Clone, Copy, Debug, PartialEq, Eq)]
@@ -19,7 +22,7 @@ pub enum Letter {
 }
 
 impl Letter {
-    /// The byte that a report shows: `.`, `B`, `T`, `R` or `O`.
+    /// Returns the byte that a report shows: `.`, `B`, `T`, `R` or `O`.
     pub fn byte(self) -> u8
         ensures { result ≡ byte_of self }
     {
@@ -32,7 +35,7 @@ impl Letter {
         }
     }
 
-    /// Whether it says that the test kills the mutant.
+    /// Whether the test kills the mutant: it does iff the letter isn't `Same`.
     pub fn kills(self) -> bool
         ensures { result ≡ kills self }
     {
@@ -43,40 +46,20 @@ impl Letter {
     }
 }
 
-fn same_ending(a: Ending, b: Ending) -> bool
-    ensures { IsTrue result ↔ (a ≡ b) }
-{
-    a == b
-}
-
-fn same_bytes(a: &[u8], b: &[u8]) -> bool
-    ensures { IsTrue result ↔ (a.now ≡ b.now) }
-{
-    a == b
-}
-
-/// Whether two outcomes are equal.
-pub fn same_outcome(a: &Outcome, b: &Outcome) -> bool
-    ensures { IsTrue result ↔ (a.now ≡ b.now) }
-{
-    if !same_ending(a.ending, b.ending) {
-        return false;
-    }
-    same_bytes(a.output.as_slice(), b.output.as_slice())
-}
-
-/// The verdict on what a mutant's run showed, against what the test expects.
+/// Returns the verdict on what a mutant's run showed, against what the test expects: `Same` iff
+/// the outcomes are equal; else `Budget` or `Trap` if the run ended so; else `Return` if the endings
+/// differ; else `Output`.
 pub fn verdict(got: &Outcome, expected: &Outcome) -> Letter
     ensures { IsVerdict got.now expected.now result }
 {
-    if same_outcome(got, expected) {
+    if got.same(expected) {
         return Letter::Same;
     }
     match got.ending {
         Ending::Budget => Letter::Budget,
         Ending::Trap(_) => Letter::Trap,
         Ending::Return(_) | Ending::Exit(_) => {
-            if same_ending(got.ending, expected.ending) {
+            if got.ending.same(&expected.ending) {
                 Letter::Output
             } else {
                 Letter::Return

@@ -4,7 +4,7 @@
 mod letter;
 mod matrix;
 
-pub use letter::{Letter, same_outcome, verdict};
+pub use letter::{Letter, verdict};
 pub use matrix::Matrix;
 
 #[cfg(test)]

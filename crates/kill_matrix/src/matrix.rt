@@ -1,9 +1,11 @@
+//! The letters of all mutants on all tests, and the score.
+
 ghost use Rattle.std.specs.Prelude.{◌≡◌, ◌<◌, ◌≤◌, ◌+◌, ◌-◌, ◌^◌, [], ◌∷◌, ◌++◌, length, slice_get, unwrap_or, IfOk, OnOk, OnErr};
 ghost use Rattle.kill_matrix.specs.Verdict.{kills};
 ghost use Rattle.kill_matrix.specs.Score.{Letters, letter_of, is_killed, killed_of};
 
 use crate::letter::Letter;
-use am_base::OutOfMemory;
+use am_base::{MAX_MUTANTS, OutOfMemory};
 use am_lists::Items;
 use std::alloc::Global;
 use std::marker::Model;
@@ -17,15 +19,17 @@ pub struct Matrix {
 
 impl Model for Matrix {
     ghost use Rattle.std.specs.Prelude.{◌^◌, ◌<◌, ◌≡◌, ◌≤◌, length, All};
+    ghost use Rattle.am_base.specs.declared.limits.TheConstants.{MAX_MUTANTS};
     ghost use Rattle.kill_matrix.specs.Score.{Letters};
 
     ghost Value = { Letters };
 
     ghost view = { λ m. record { mutants = m.mutants; tests = m.tests.items } };
 
-    ghost invariant = { λ m. (1 ≤ m.mutants) × (m.mutants ≤ 65536) × (length m.tests.items < 2 ^ 32) × All (λ row. length row ≡ m.mutants) m.tests.items };
+    ghost invariant = { λ m. (1 ≤ m.mutants) × (m.mutants ≤ MAX_MUTANTS) × (length m.tests.items < 2 ^ 32) × All (λ row. length row ≡ m.mutants) m.tests.items };
 }
 
+/// Whether the row of a test says that it kills mutant `m`.
 fn kills_in(row: &Items<Letter>, m: u32) -> bool
     ensures { result ≡ kills (unwrap_or (slice_get row.now m) Letter.Same) }
 {
@@ -36,10 +40,10 @@ fn kills_in(row: &Items<Letter>, m: u32) -> bool
 }
 
 impl Matrix {
-    /// A matrix without tests for 1 to 65,536 mutants, mutant 0 included.
+    /// Returns a matrix without tests for 1 to `MAX_MUTANTS` mutants, mutant 0 included.
     pub fn new(alloc: Global, mutants: u32) -> Result<Matrix, OutOfMemory>
         requires some { 1 ≤ mutants }
-        requires few { mutants ≤ 65536 }
+        requires few { mutants ≤ MAX_MUTANTS }
         ensures { IfOk result (λ matrix. matrix ≡ record { mutants = mutants; tests = [] }) }
     {
         Ok(Matrix {
@@ -48,7 +52,7 @@ impl Matrix {
         })
     }
 
-    /// Adds a test with one letter for each mutant. A refusal leaves the matrix as it was.
+    /// Appends a test with one letter for each mutant. After an error the matrix is as it was.
     pub fn add(&mut self, alloc: Global, letters: &[Letter]) -> Result<(), OutOfMemory>
         requires letters { length letters.now ≡ self.old.mutants }
         requires few { length self.old.tests < 2 ^ 32 - 1 }
@@ -60,7 +64,7 @@ impl Matrix {
         Ok(())
     }
 
-    /// The letter of a mutant from 0 on a test from 0.
+    /// Returns the letter of mutant `m` on test `t`, both counted from 0. O(1).
     pub fn letter(&self, m: u32, t: u32) -> Letter
         requires mutant { m < self.now.mutants }
         requires test { t < length self.now.tests }
@@ -70,27 +74,29 @@ impl Matrix {
         row.as_slice()[m as usize]
     }
 
-    /// How many mutants there are, mutant 0 included.
+    /// Returns the number of mutants, mutant 0 included.
     pub fn mutants(&self) -> u32
         ensures { result ≡ self.now.mutants }
     {
         self.mutants
     }
 
-    /// How many tests there are.
+    /// Returns the number of tests.
     pub fn tests(&self) -> u32
         ensures { result ≡ length self.now.tests }
     {
         self.tests.len() as u32
     }
 
+    /// Whether some test kills mutant `m`.
     fn is_killed(&self, m: u32) -> bool
         ensures { result ≡ is_killed self.now m }
     {
         self.tests.iter().any(|row| kills_in(row, m))
     }
 
-    /// How many mutants from 1 on some test kills, and how many mutants from 1 on there are.
+    /// Returns the number of mutants from 1 upward that some test kills, and the number of mutants
+    /// from 1 upward.
     pub fn score(&self) -> (u32, u32)
         ensures killed { result.0 ≡ killed_of self.now }
         ensures mutants { result.1 ≡ self.now.mutants - 1 }

@@ -1,9 +1,14 @@
-//! The text of a report.
+//! The text of a report: letters, score, work and splits.
 #![tactic(auto)]
 
-mod lines;
+mod numbers;
+mod score;
+mod splits;
+mod text;
+mod works;
 
-pub use lines::report;
+pub use score::score_text;
+pub use text::report;
 
 #[cfg(test)]
 mod tests;
