@@ -14,7 +14,8 @@ use Rattle.accmut_app.specs.declared.narrow.module.NarrowModule.{NarrowModule}
 use Rattle.accmut_app.specs.NarrowModule.{narrow_module}
 use Rattle.accmut_app.specs.NarrowList.{narrow_list}
 use Rattle.accmut_app.specs.NarrowSuite.{narrow_suite}
-use Rattle.accmut_app.specs.Answer.{Fails, SuiteFails, ListFails, HasFault, SomeFault, Reads, IsSuiteReport, IsListReport, HasModule, HasMutants, HasLongFile, IsRefusal, IsAnswer, IsText, Writes, status_of}
+use Rattle.accmut_app.specs.Answer.{Fails, SuiteFails, ListFails, HasFault, SomeFault, Reads, IsSuiteReport, IsListReport, HasModule, HasMutants, HasLongFile}
+use Rattle.accmut_app.specs.Answer.{IsRefusal, IsAnswer, IsText, Writes, status_of}
 
 pub suite_fails : (files : Files) (name : List ℕ) (rose : Type 0) (narrow : NarrowModule) (f : Failure)
     → Fails files name rose (λ file. narrow_suite narrow file ≡ None) f → SuiteFails files name rose narrow (status_of f status.TestsRefused)
@@ -24,7 +25,8 @@ suite_fails files name rose narrow failure.Refused h = h
 suite_fails files name rose narrow failure.OutOfMemory h = h
 
 pub list_fails : (files : Files) (name suite_name : List ℕ) (rose suite_rose : Type 0) (narrow : NarrowModule) (f : Failure)
-    → Fails files name rose (λ file. narrow_list narrow file ≡ None) f → ListFails files name suite_name rose suite_rose narrow (status_of f status.MutantsRefused)
+    → Fails files name rose (λ file. narrow_list narrow file ≡ None) f
+    → ListFails files name suite_name rose suite_rose narrow (status_of f status.MutantsRefused)
 list_fails files name suite_name rose suite_rose narrow failure.Fault h = ListFails.fault h
 list_fails files name suite_name rose suite_rose narrow failure.TooLong h = ListFails.long h
 list_fails files name suite_name rose suite_rose narrow failure.Refused h = ListFails.refused h
@@ -70,7 +72,8 @@ module_refusal files c rose some_rose to failure.OutOfMemory h = tt
 
 suite_refusal : (files : Files) (c : Command) (rose some_rose : Type 0) (narrow : NarrowModule) (table : Table) → (rose → some_rose)
     → HasModule files c narrow → HasMutants files c narrow table → (s : Status) → SuiteFails files c.suite_name rose narrow s → IsRefusal files c some_rose s
-suite_refusal files c rose some_rose narrow table to m l status.TestsRefused h = record { narrow = narrow; table = table; has_module = m; has_mutants = l; refused = h }
+suite_refusal files c rose some_rose narrow table to m l status.TestsRefused h =
+    record { narrow = narrow; table = table; has_module = m; has_mutants = l; refused = h }
 suite_refusal files c rose some_rose narrow table to m l status.ReadFault h = to h
 suite_refusal files c rose some_rose narrow table to m l status.TooLong h = HasLongFile.long_tests narrow table m l h
 suite_refusal files c rose some_rose narrow table to m l status.OutOfMemory h = tt
@@ -82,7 +85,8 @@ suite_refusal files c rose some_rose narrow table to m l status.WriteFault h = a
 suite_refusal files c rose some_rose narrow table to m l status.TooMany h = absurd h
 
 pub list_refusal : (files : Files) (c : Command) (rose suite_rose some_rose : Type 0) (narrow : NarrowModule) → (rose → some_rose)
-    → ((table : Table) → HasMutants files c narrow table → suite_rose → some_rose) → HasModule files c narrow → (s : Status) → ListFails files c.list_name c.suite_name rose suite_rose narrow s → IsRefusal files c some_rose s
+    → ((table : Table) → HasMutants files c narrow table → suite_rose → some_rose) → HasModule files c narrow → (s : Status)
+    → ListFails files c.list_name c.suite_name rose suite_rose narrow s → IsRefusal files c some_rose s
 list_refusal files c rose suite_rose some_rose narrow to suite_to m _ (ListFails.refused h) = record { narrow = narrow; has_module = m; refused = h }
 list_refusal files c rose suite_rose some_rose narrow to suite_to m _ (ListFails.fault h) = to h
 list_refusal files c rose suite_rose some_rose narrow to suite_to m _ (ListFails.long h) = HasLongFile.long_mutants narrow m h
@@ -93,12 +97,14 @@ list_refusal files c rose suite_rose some_rose narrow to suite_to m _ (ListFails
 
 -- ---- answers
 
-pub refusal_answer : (files : Files) (c : Command) (rose sink_rose : Type 0) (old new : Written) (text : List ℕ) (s t : Status) → Writes text old new sink_rose s t
+pub refusal_answer : (files : Files) (c : Command) (rose sink_rose : Type 0) (old new : Written) (text : List ℕ) (s t : Status)
+    → Writes text old new sink_rose s t
     → ((new ≡ appended old text) → IsAnswer files c rose sink_rose old new s) → IsText files c text → IsAnswer files c rose sink_rose old new t
 refusal_answer files c rose sink_rose old new text s _ (Writes.whole e) answer is_text = answer e
 refusal_answer files c rose sink_rose old new text s _ (Writes.part cause prefix) answer is_text = (cause, (text, is_text, prefix))
 
-pub list_fails_later : {X : Type 0} (files mid : Files) (list_name suite_name : List ℕ) (rose : Type 0) (old between new : ℕ) (narrow : NarrowModule) (table : Table) (r : Result X Status)
+pub list_fails_later : {X : Type 0} (files mid : Files) (list_name suite_name : List ℕ) (rose : Type 0) (old between new : ℕ) (narrow : NarrowModule)
+    (table : Table) (r : Result X Status)
     → mid ≡ files → old ≤ between → Reads files list_name (λ file. IsListOf narrow file table) → IfErr r (SuiteFails mid suite_name (Rose between new) narrow)
     → IfErr r (ListFails files list_name suite_name rose (Rose old new) narrow)
 list_fails_later files mid list_name suite_name rose old between new narrow table (Ok x) e h reads fails = tt
@@ -114,11 +120,14 @@ refusal_later files mid c old between new narrow (Err s) e h m fails =
     list_refusal files c (Rose (between c.list_name) (new c.list_name)) (Rose (between c.suite_name) (new c.suite_name)) (HasFault files c old new) narrow
     (λ r. HasFault.list_fault narrow m (rose_later (old c.list_name) (between c.list_name) (new c.list_name) (h c.list_name) r))
     (λ table l r. HasFault.suite_fault narrow table m l (rose_later (old c.suite_name) (between c.suite_name) (new c.suite_name) (h c.suite_name) r))
-    m s (subst (λ f. ListFails f c.list_name c.suite_name (Rose (between c.list_name) (new c.list_name)) (Rose (between c.suite_name) (new c.suite_name)) narrow s) e fails)
+    m s (subst (λ f. ListFails f c.list_name c.suite_name (Rose (between c.list_name) (new c.list_name))
+    (Rose (between c.suite_name) (new c.suite_name)) narrow s) e fails)
 
 pub module_refusal_first : (files : Files) (c : Command) (old new : List ℕ → ℕ) (f : Failure)
-    → Fails files c.module_name (Rose (old c.module_name) (new c.module_name)) (λ file. narrow_module file ≡ None) f → IsRefusal files c (HasFault files c old new) (status_of f status.ModuleRefused)
-module_refusal_first files c old new f h = module_refusal files c (Rose (old c.module_name) (new c.module_name)) (HasFault files c old new) (λ r. HasFault.module_fault r) f h
+    → Fails files c.module_name (Rose (old c.module_name) (new c.module_name)) (λ file. narrow_module file ≡ None) f
+    → IsRefusal files c (HasFault files c old new) (status_of f status.ModuleRefused)
+module_refusal_first files c old new f h = module_refusal files c (Rose (old c.module_name) (new c.module_name)) (HasFault files c old new)
+    (λ r. HasFault.module_fault r) f h
 
 -- the first file that isn't accepted is one of the files
 pub fault_some : (files : Files) (c : Command) (old new : List ℕ → ℕ) → HasFault files c old new → SomeFault c old new

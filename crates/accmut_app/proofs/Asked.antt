@@ -1,5 +1,6 @@
 -- The command that four words ask for.
-use Rattle.std.proofs.Common.{◌≡◌, ℕ, ◌<◌, ◌≤◌, Bool, true, false, if◌then◌else◌, List, [], ◌∷◌, length, get_or, Option, Some, None, codes, subst, sym, arith, String, string_bytes, Global}
+use Rattle.std.proofs.Common.{◌≡◌, ℕ, ◌<◌, ◌≤◌, Bool, true, false, if◌then◌else◌, List, [], ◌∷◌, length, get_or, Option, Some, None, codes, subst, sym, arith}
+use Rattle.std.proofs.Common.{String, string_bytes, Global}
 use Rattle.std.specs.Str.{bytes_eq}
 use Rattle.accmut_app.specs.Words.{Command, command_of, texts_of, command_named}
 
@@ -17,7 +18,8 @@ asked (v ∷ w ∷ []) name first second third least most n f s t run c h = absu
 asked (v ∷ w ∷ x ∷ []) name first second third least most n f s t run c h = absurd (omega (arith, least))
 asked (v ∷ w ∷ x ∷ y ∷ []) name first second third least most n f s t run c h =
     let is_run : bytes_eq (string_bytes v) (codes "run") ≡ true = subst (λ z. bytes_eq (string_bytes z) (codes "run") ≡ true) n run in
-    let whole : command_named (string_bytes w) (string_bytes x) (string_bytes y) ≡ c = chosen (bytes_eq (string_bytes v) (codes "run")) (command_named (string_bytes w) (string_bytes x) (string_bytes y)) c is_run h in
+    let whole : command_named (string_bytes w) (string_bytes x) (string_bytes y) ≡ c =
+    chosen (bytes_eq (string_bytes v) (codes "run")) (command_named (string_bytes w) (string_bytes x) (string_bytes y)) c is_run h in
     subst (λ z. command_named (string_bytes z) (string_bytes second) (string_bytes third) ≡ c) (sym f)
     (subst (λ z. command_named (string_bytes w) (string_bytes z) (string_bytes third) ≡ c) (sym s)
     (subst (λ z. command_named (string_bytes w) (string_bytes x) (string_bytes z) ≡ c) (sym t) whole))

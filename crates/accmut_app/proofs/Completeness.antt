@@ -1,8 +1,10 @@
 -- The answer that the bytes of the files ask for, where no count of faults rose.
-use Rattle.std.proofs.Common.{◌≡◌, ◌⊎◌, ℕ, ◌<◌, ◌≤◌, true, false, nat_le, if◌then◌else◌, List, length, Option, Some, None, IsSome, refl, subst, sym, ◌∙◌, inl, inr, arith}
+use Rattle.std.proofs.Common.{◌≡◌, ◌⊎◌, ℕ, ◌<◌, ◌≤◌, true, false, nat_le, if◌then◌else◌, List, length, Option, Some, None, IsSome, refl, subst, sym, ◌∙◌, inl}
+use Rattle.std.proofs.Common.{inr, arith}
 use Rattle.std.proofs.lemmas.Bool.Decides.{nat_tests}
 use Rattle.code_form.specs.Variant.{Table}
 use Rattle.test_suite.specs.declared.suite.Suite.{Suite}
+use Rattle.am_base.specs.declared.limits.TheConstants.{MAX_FILE_BYTES}
 use Rattle.am_base.specs.Files.{Files, Holds}
 use Rattle.am_base.specs.Text.{Written}
 use Rattle.accmut_app.specs.declared.status.Status.{Status}
@@ -12,7 +14,8 @@ use Rattle.accmut_app.specs.NarrowModule.{narrow_module}
 use Rattle.accmut_app.specs.NarrowList.{narrow_list}
 use Rattle.accmut_app.specs.NarrowSuite.{narrow_suite}
 use Rattle.accmut_app.specs.Words.{Command}
-use Rattle.accmut_app.specs.Answer.{AreAccepted, Reads, HasModule, HasMutants, HasTests, HasLongFile, IsTooLong, IsShort, IsModuleRefused, IsMutantsRefused, IsTestsRefused, IsReportOf, IsListOf, IsAnswer, file_due, judged, suite_due, list_due, status_due}
+use Rattle.accmut_app.specs.Answer.{AreAccepted, Reads, HasModule, HasMutants, HasTests, HasLongFile, IsTooLong, IsShort, IsModuleRefused, IsMutantsRefused}
+use Rattle.accmut_app.specs.Answer.{IsTestsRefused, IsReportOf, IsListOf, IsAnswer, file_due, judged, suite_due, list_due, status_due}
 
 abbrev IsWell : Status → Type 0
 IsWell s = (s ≡ status.Done) ⊎ (s ≡ status.OutOfMemory)
@@ -60,23 +63,25 @@ complete files c rose sink_rose old new status.TooMany h a quiet still = absurd 
 
 -- a file that reads is held, and is what it reads as
 read_held : (held : List ℕ → Option (List ℕ)) (name : List ℕ) (IsRead : List ℕ → Type 0) → Reads (Some held) name IsRead
-    → (file : List ℕ) × (held name ≡ Some file) × (length file ≤ 4194304) × IsRead file
+    → (file : List ℕ) × (held name ≡ Some file) × (length file ≤ MAX_FILE_BYTES) × IsRead file
 read_held held name IsRead r = by (held name) refl r.held
   where
-    by : (o : Option (List ℕ)) → held name ≡ o → IsSome o → (file : List ℕ) × (held name ≡ Some file) × (length file ≤ 4194304) × IsRead file
+    by : (o : Option (List ℕ)) → held name ≡ o → IsSome o → (file : List ℕ) × (held name ≡ Some file) × (length file ≤ MAX_FILE_BYTES) × IsRead file
     by None e h = absurd (cc h)
     by (Some file) e h = (file, e, r.short file e, r.read file e)
 
-passed : {A : Type 0} (o : Option (List ℕ)) (f : List ℕ → Option A) (refused : Status) (go : A → Status) (file : List ℕ) (x : A) → o ≡ Some file → length file ≤ 4194304 → f file ≡ Some x
+passed : {A : Type 0} (o : Option (List ℕ)) (f : List ℕ → Option A) (refused : Status) (go : A → Status) (file : List ℕ) (x : A) → o ≡ Some file
+    → length file ≤ MAX_FILE_BYTES → f file ≡ Some x
     → file_due o (λ t. judged (f t) refused go) ≡ go x
 passed o f refused go file x e short is =
-    let test : nat_le (length file) 4194304 ≡ true = grind (arith, nat_tests) in
+    let test : nat_le (length file) MAX_FILE_BYTES ≡ true = grind (arith, nat_tests) in
     rw (e, test, is)
 
-stopped : {A : Type 0} (o : Option (List ℕ)) (f : List ℕ → Option A) (refused : Status) (go : A → Status) (file : List ℕ) → o ≡ Some file → length file ≤ 4194304 → f file ≡ None
+stopped : {A : Type 0} (o : Option (List ℕ)) (f : List ℕ → Option A) (refused : Status) (go : A → Status) (file : List ℕ) → o ≡ Some file
+    → length file ≤ MAX_FILE_BYTES → f file ≡ None
     → file_due o (λ t. judged (f t) refused go) ≡ refused
 stopped o f refused go file e short is =
-    let test : nat_le (length file) 4194304 ≡ true = grind (arith, nat_tests) in
+    let test : nat_le (length file) MAX_FILE_BYTES ≡ true = grind (arith, nat_tests) in
     rw (e, test, is)
 
 too_long : (held : List ℕ → Option (List ℕ)) (name : List ℕ) (go : List ℕ → Status) → IsTooLong (Some held) name → file_due (held name) go ≡ status.TooLong
@@ -86,10 +91,11 @@ too_long held name go l = by (held name) refl l.held
     by None e h = absurd (cc h)
     by (Some file) e h =
         let long = l.long file e in
-        let test : nat_le (length file) 4194304 ≡ false = grind (arith, nat_tests) in
+        let test : nat_le (length file) MAX_FILE_BYTES ≡ false = grind (arith, nat_tests) in
         rw test
 
-module_due : (held : List ℕ → Option (List ℕ)) (c : Command) (narrow : NarrowModule) → HasModule (Some held) c narrow → status_due held c ≡ list_due held c narrow
+module_due : (held : List ℕ → Option (List ℕ)) (c : Command) (narrow : NarrowModule) → HasModule (Some held) c narrow
+    → status_due held c ≡ list_due held c narrow
 module_due held c narrow m =
     let r = read_held held c.module_name (λ file. narrow_module file ≡ Some narrow) m.reads in
     passed (held c.module_name) narrow_module status.ModuleRefused (λ n. list_due held c n) r.0 narrow r.1 r.2 r.3
@@ -100,7 +106,8 @@ mutants_due held c narrow table l =
     let r = read_held held c.list_name (λ file. IsListOf narrow file table) l.reads in
     passed (held c.list_name) (narrow_list narrow) status.MutantsRefused (λ rows. suite_due held c narrow) r.0 r.3.0 r.1 r.2 r.3.1
 
-tests_due : (held : List ℕ → Option (List ℕ)) (c : Command) (narrow : NarrowModule) (suite : Suite) → HasTests (Some held) c narrow suite → suite_due held c narrow ≡ status.Done
+tests_due : (held : List ℕ → Option (List ℕ)) (c : Command) (narrow : NarrowModule) (suite : Suite) → HasTests (Some held) c narrow suite
+    → suite_due held c narrow ≡ status.Done
 tests_due held c narrow suite t =
     let r = read_held held c.suite_name (λ file. narrow_suite narrow file ≡ Some suite) t.reads in
     passed (held c.suite_name) (narrow_suite narrow) status.TestsRefused (λ suite. status.Done) r.0 suite r.1 r.2 r.3
@@ -120,7 +127,8 @@ module_refused_due held c h =
 mutants_refused_due : (held : List ℕ → Option (List ℕ)) (c : Command) → IsMutantsRefused (Some held) c → status_due held c ≡ status.MutantsRefused
 mutants_refused_due held c h =
     let r = read_held held c.list_name (λ file. narrow_list h.narrow file ≡ None) h.refused in
-    module_due held c h.narrow h.has_module ∙ stopped (held c.list_name) (narrow_list h.narrow) status.MutantsRefused (λ rows. suite_due held c h.narrow) r.0 r.1 r.2 r.3
+    module_due held c h.narrow h.has_module ∙ stopped (held c.list_name) (narrow_list h.narrow) status.MutantsRefused
+    (λ rows. suite_due held c h.narrow) r.0 r.1 r.2 r.3
 
 tests_refused_due : (held : List ℕ → Option (List ℕ)) (c : Command) → IsTestsRefused (Some held) c → status_due held c ≡ status.TestsRefused
 tests_refused_due held c h =
@@ -136,7 +144,8 @@ long_due held c (HasLongFile.long_tests narrow table m k l) =
     module_due held c narrow m ∙ (mutants_due held c narrow table k
     ∙ too_long held c.suite_name (λ file. judged (narrow_suite narrow file) status.TestsRefused (λ suite. status.Done)) l)
 
-answer_due : (held : List ℕ → Option (List ℕ)) (c : Command) (rose sink_rose : Type 0) (old new : Written) (s : Status) → IsAnswer (Some held) c rose sink_rose old new s
+answer_due : (held : List ℕ → Option (List ℕ)) (c : Command) (rose sink_rose : Type 0) (old new : Written) (s : Status)
+    → IsAnswer (Some held) c rose sink_rose old new s
     → (rose → ⊥) → (sink_rose → ⊥) → IsDue held c s
 answer_due held c rose sink_rose old new status.Done h quiet still = inl (sym (report_due held c h.0 h.1))
 answer_due held c rose sink_rose old new status.Usage h quiet still = absurd h

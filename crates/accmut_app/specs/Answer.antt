@@ -1,5 +1,6 @@
 -- What each answer of a command says of the files that its words name. What is said of the bytes of files holds where the shelf tells them.
 use Rattle.std.specs.Prelude.{◌≡◌, ◌⊎◌, ℕ, ◌<◌, ◌≤◌, nat_le, if◌then◌else◌, List, length, Option, Some, None, codes}
+use Rattle.am_base.specs.declared.limits.TheConstants.{MAX_FILE_BYTES}
 use Rattle.am_base.specs.Cause.{Rose}
 use Rattle.am_base.specs.Text.{Written, appended, AppendsProperPrefix}
 use Rattle.am_base.specs.Files.{Files, Holds, IsHeld}
@@ -19,7 +20,7 @@ use Rattle.accmut_app.specs.Verdicts.{IsReport}
 
 -- a file that is not too long
 abbrev pub IsShort : List ℕ → Type 0
-IsShort file = length file ≤ 4194304
+IsShort file = length file ≤ MAX_FILE_BYTES
 
 -- the file of a name is not too long and reads as what is given
 pub record Reads (files : Files) (name : List ℕ) (IsRead : List ℕ → Type 0) : Type 0 where
@@ -30,7 +31,7 @@ pub record Reads (files : Files) (name : List ℕ) (IsRead : List ℕ → Type 0
 -- the file of a name is too long
 pub record IsTooLong (files : Files) (name : List ℕ) : Type 0 where
   pub held : IsHeld files name
-  pub long : (file : List ℕ) → Holds files name file → 4194304 < length file
+  pub long : (file : List ℕ) → Holds files name file → MAX_FILE_BYTES < length file
 
 -- why the file of a name was not taken; `rose` says that its count of faults rose, and `Refuses` what is said of its bytes where it was refused
 abbrev pub Fails : Files → List ℕ → Type 0 → (List ℕ → Type 0) → Failure → Type 0
@@ -75,14 +76,15 @@ pub record IsTestsRefused (files : Files) (c : Command) : Type 0 where
 pub data HasLongFile (files : Files) (c : Command) : Type 0 where
   long_module : IsTooLong files c.module_name → HasLongFile files c
   long_mutants : (narrow : NarrowModule) → HasModule files c narrow → IsTooLong files c.list_name → HasLongFile files c
-  long_tests : (narrow : NarrowModule) (table : Table) → HasModule files c narrow → HasMutants files c narrow table → IsTooLong files c.suite_name → HasLongFile files c
+  long_tests : (narrow : NarrowModule) (table : Table) → HasModule files c narrow → HasMutants files c narrow table → IsTooLong files c.suite_name
+      → HasLongFile files c
 
 -- the count of faults of the first file that isn't accepted rose
 pub data HasFault (files : Files) (c : Command) (old new : List ℕ → ℕ) : Type 0 where
   module_fault : Rose (old c.module_name) (new c.module_name) → HasFault files c old new
   list_fault : (narrow : NarrowModule) → HasModule files c narrow → Rose (old c.list_name) (new c.list_name) → HasFault files c old new
-  suite_fault : (narrow : NarrowModule) (table : Table) → HasModule files c narrow → HasMutants files c narrow table → Rose (old c.suite_name) (new c.suite_name)
-      → HasFault files c old new
+  suite_fault : (narrow : NarrowModule) (table : Table) → HasModule files c narrow → HasMutants files c narrow table
+      → Rose (old c.suite_name) (new c.suite_name) → HasFault files c old new
 
 -- the text is the report of the three files
 pub record IsReportOf (files : Files) (c : Command) (text : List ℕ) : Type 0 where
@@ -206,7 +208,7 @@ pub record AreAccepted (files : Files) (c : Command) : Type 0 where
 
 abbrev pub file_due : Option (List ℕ) → (List ℕ → Status) → Status
 file_due None go = status.ReadFault
-file_due (Some file) go = if nat_le (length file) 4194304 then go file else status.TooLong
+file_due (Some file) go = if nat_le (length file) MAX_FILE_BYTES then go file else status.TooLong
 
 abbrev pub judged : {A : Type 0} → Option A → Status → (A → Status) → Status
 judged None otherwise go = otherwise

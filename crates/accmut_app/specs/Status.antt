@@ -1,7 +1,8 @@
 -- The numbers of the statuses.
 use Rattle.std.specs.Prelude.{ℕ}
 use Rattle.accmut_app.specs.declared.status.Status.{Status}
-use Rattle.accmut_app.specs.declared.status.Status.TheVariants.{Done, Usage, ModuleRefused, MutantsRefused, TestsRefused, ReadFault, WriteFault, OutOfMemory, TooLong, TooMany}
+use Rattle.accmut_app.specs.declared.status.Status.TheVariants.{Done, Usage, ModuleRefused, MutantsRefused, TestsRefused, ReadFault, WriteFault, OutOfMemory}
+use Rattle.accmut_app.specs.declared.status.Status.TheVariants.{TooLong, TooMany}
 
 abbrev pub number_of : Status → ℕ
 number_of Done = 0

@@ -2,7 +2,7 @@
 ghost use Rattle.std.specs.Prelude.{◌≡◌, ◌<◌, length, IfOk};
 ghost use Rattle.code_form.specs.Fit.{FitsCase};
 ghost use Rattle.code_form.specs.Variant.{mutants_of};
-ghost use Rattle.accmut_app.specs.Verdicts.{AreVerdicts, AreVerdictsAgainst, IsMatrix, IsReport};
+ghost use Rattle.accmut_app.specs.Verdicts.{outcome_alone, AreVerdicts, AreVerdictsAgainst, IsMatrix, IsReport};
 ghost use Rattle.test_suite.specs.Suite.{FitsSuite};
 ghost use Rattle.accmut_app.specs.Runnable.{IsRunnable};
 
@@ -10,9 +10,28 @@ use am_base::{OutOfMemory, Outcome};
 use code_form::{Case, Code, Variants};
 use kill_matrix::{Letter, Matrix, verdict};
 use plain_machine::run_alone;
+use ports::Port;
 use std::alloc::Global;
 use test_suite::{Suite, Test};
-use work_report::report;
+use work_report::score_text;
+
+/// The outcome of a mutant's run alone on a case.
+fn outcome(
+    alloc: Global,
+    code: &Code,
+    variants: &Variants,
+    m: u32,
+    case: &Case,
+) -> Result<Outcome, OutOfMemory>
+    requires runnable { IsRunnable code.now variants.now }
+    requires case { FitsCase code.now case.now }
+    requires mutant { m < mutants_of variants.now }
+    ensures { IfOk result (λ outcome. outcome ≡ outcome_alone code.now variants.now case.now m) }
+{
+    let mut ports: Vec<Box<dyn Port>> = Vec::new(alloc);
+    let alone = run_alone(alloc, code, variants, m, case, ports.as_mut_slice())?;
+    Ok(alone.outcome)
+}
 
 /// The verdict on each mutant's run alone on a case, against an outcome.
 fn letters_against(
@@ -28,8 +47,8 @@ fn letters_against(
 {
     let mut letters = Vec::new(alloc);
     for m in 0..variants.mutants() {
-        let alone = run_alone(alloc, code, variants, m, case)?;
-        letters.push(verdict(&alone.outcome, expected))?;
+        let alone = outcome(alloc, code, variants, m, case)?;
+        letters.push(verdict(&alone, expected))?;
     }
     Ok(letters)
 }
@@ -49,8 +68,8 @@ fn letters_of(
     match &test.expected {
         Some(expected) => letters_against(alloc, code, variants, &test.case, expected),
         None => {
-            let original = run_alone(alloc, code, variants, 0, &test.case)?;
-            letters_against(alloc, code, variants, &test.case, &original.outcome)
+            let original = outcome(alloc, code, variants, 0, &test.case)?;
+            letters_against(alloc, code, variants, &test.case, &original)
         }
     }
 }
@@ -86,5 +105,5 @@ pub fn report_of(
     ensures { IfOk result (λ text. IsReport code.now variants.now suite.now text.items) }
 {
     let matrix = matrix_of(alloc, code, variants, suite)?;
-    report(alloc, suite, &matrix)
+    Ok(score_text(alloc, suite, &matrix)?.into_vec())
 }

@@ -11,7 +11,7 @@ ghost use Rattle.test_suite.specs.Suite.{FitsSuite};
 ghost use Rattle.code_form.specs.Fit.{FitsTable};
 
 use crate::narrow::{NarrowModule, read_list, read_module, read_suite};
-use am_base::{FILE_LIMIT, OutOfMemory, ReadFailed, Shelf, read_whole};
+use am_base::{MAX_FILE_BYTES, OutOfMemory, ReadFailed, Shelf, read_whole};
 use code_form::Variants;
 use std::alloc::Global;
 use test_suite::Suite;
@@ -25,9 +25,9 @@ pub enum Failure {
     OutOfMemory,
 }
 
-/// Reads the file of a name into the front of a buffer, and answers its length.
+/// Reads the file of a name into the front of a buffer. Returns its length in bytes.
 fn read_file<F: Shelf>(shelf: &mut F, name: &str, buffer: &mut [u8]) -> Result<usize, Failure>
-    requires { length buffer.old ≡ FILE_LIMIT + 1 }
+    requires { length buffer.old ≡ MAX_FILE_BYTES + 1 }
     ensures within { IfOk result (λ len. len ≤ length buffer.new) }
     ensures ok { IfOk result (λ len. Reads (F.files shelf.old) name.now (λ file. take len buffer.new ≡ file)) }
     ensures err { IfErr result (Fails (F.files shelf.old) name.now (Rose (F.faults shelf.old name.now) (F.faults shelf.new name.now)) (λ file. ⊥)) }
@@ -48,12 +48,13 @@ pub fn load_module<F: Shelf>(
     name: &str,
     buffer: &mut [u8],
 ) -> Result<NarrowModule, Failure>
-    requires { length buffer.old ≡ FILE_LIMIT + 1 }
+    requires { length buffer.old ≡ MAX_FILE_BYTES + 1 }
     ensures ok { IfOk result (λ narrow. Reads (F.files shelf.old) name.now (λ file. narrow_module file ≡ Some narrow)) }
     ensures narrow { IfOk result IsNarrow }
     ensures sound { IfOk result (λ narrow. IsSound narrow.code) }
     ensures no_ports { IfOk result (λ narrow. length narrow.code.signs ≡ 0) }
-    ensures err { IfErr result (Fails (F.files shelf.old) name.now (Rose (F.faults shelf.old name.now) (F.faults shelf.new name.now)) (λ file. narrow_module file ≡ None)) }
+    ensures err { IfErr result (Fails (F.files shelf.old) name.now
+        (Rose (F.faults shelf.old name.now) (F.faults shelf.new name.now)) (λ file. narrow_module file ≡ None)) }
     ensures kept { F.files shelf.new ≡ F.files shelf.old }
     ensures counts { (other : List ℕ) → F.faults shelf.old other ≤ F.faults shelf.new other }
 {
@@ -73,11 +74,12 @@ pub fn load_list<F: Shelf>(
     buffer: &mut [u8],
     narrow: &NarrowModule,
 ) -> Result<Variants, Failure>
-    requires buffer { length buffer.old ≡ FILE_LIMIT + 1 }
+    requires buffer { length buffer.old ≡ MAX_FILE_BYTES + 1 }
     requires narrow { IsNarrow narrow.now }
     ensures ok { IfOk result (λ table. Reads (F.files shelf.old) name.now (λ file. IsListOf narrow.now file table)) }
     ensures fits { IfOk result (FitsTable narrow.now.code) }
-    ensures err { IfErr result (Fails (F.files shelf.old) name.now (Rose (F.faults shelf.old name.now) (F.faults shelf.new name.now)) (λ file. narrow_list narrow.now file ≡ None)) }
+    ensures err { IfErr result (Fails (F.files shelf.old) name.now
+        (Rose (F.faults shelf.old name.now) (F.faults shelf.new name.now)) (λ file. narrow_list narrow.now file ≡ None)) }
     ensures kept { F.files shelf.new ≡ F.files shelf.old }
     ensures counts { (other : List ℕ) → F.faults shelf.old other ≤ F.faults shelf.new other }
 {
@@ -97,11 +99,12 @@ pub fn load_suite<F: Shelf>(
     buffer: &mut [u8],
     narrow: &NarrowModule,
 ) -> Result<Suite, Failure>
-    requires buffer { length buffer.old ≡ FILE_LIMIT + 1 }
+    requires buffer { length buffer.old ≡ MAX_FILE_BYTES + 1 }
     requires narrow { IsNarrow narrow.now }
     ensures ok { IfOk result (λ suite. Reads (F.files shelf.old) name.now (λ file. narrow_suite narrow.now file ≡ Some suite)) }
     ensures fits { IfOk result (FitsSuite narrow.now.code) }
-    ensures err { IfErr result (Fails (F.files shelf.old) name.now (Rose (F.faults shelf.old name.now) (F.faults shelf.new name.now)) (λ file. narrow_suite narrow.now file ≡ None)) }
+    ensures err { IfErr result (Fails (F.files shelf.old) name.now
+        (Rose (F.faults shelf.old name.now) (F.faults shelf.new name.now)) (λ file. narrow_suite narrow.now file ≡ None)) }
     ensures kept { F.files shelf.new ≡ F.files shelf.old }
     ensures counts { (other : List ℕ) → F.faults shelf.old other ≤ F.faults shelf.new other }
 {

@@ -13,7 +13,7 @@ use crate::letters::report_of;
 use crate::load::{Failure, load_list, load_module, load_suite};
 use crate::narrow::NarrowModule;
 use crate::status::Status;
-use am_base::{FILE_LIMIT, OutOfMemory, Shelf, Sink, write_whole};
+use am_base::{MAX_FILE_BYTES, OutOfMemory, Shelf, Sink, write_whole};
 use code_form::Variants;
 use std::alloc::Global;
 
@@ -37,7 +37,7 @@ fn text_of_suite<F: Shelf>(
     narrow: &NarrowModule,
     table: &Variants,
 ) -> Result<Vec<u8>, Status>
-    requires buffer { length buffer.old ≡ FILE_LIMIT + 1 }
+    requires buffer { length buffer.old ≡ MAX_FILE_BYTES + 1 }
     requires narrow { IsNarrow narrow.now }
     requires runnable { IsRunnable narrow.now.code table.now }
     ensures report { IfOk result (λ text. IsSuiteReport (F.files shelf.old) name.now narrow.now table.now text.items) }
@@ -64,13 +64,14 @@ fn text_of_list<F: Shelf>(
     buffer: &mut [u8],
     narrow: &NarrowModule,
 ) -> Result<Vec<u8>, Status>
-    requires buffer { length buffer.old ≡ FILE_LIMIT + 1 }
+    requires buffer { length buffer.old ≡ MAX_FILE_BYTES + 1 }
     requires narrow { IsNarrow narrow.now }
     requires sound { IsSound narrow.now.code }
     requires no_ports { length narrow.now.code.signs ≡ 0 }
     ensures report { IfOk result (λ text. IsListReport (F.files shelf.old) list_name.now suite_name.now narrow.now text.items) }
     ensures refusal { IfErr result (ListFails (F.files shelf.old) list_name.now suite_name.now
-        (Rose (F.faults shelf.old list_name.now) (F.faults shelf.new list_name.now)) (Rose (F.faults shelf.old suite_name.now) (F.faults shelf.new suite_name.now)) narrow.now) }
+        (Rose (F.faults shelf.old list_name.now) (F.faults shelf.new list_name.now))
+        (Rose (F.faults shelf.old suite_name.now) (F.faults shelf.new suite_name.now)) narrow.now) }
     ensures kept { F.files shelf.new ≡ F.files shelf.old }
     ensures counts { (other : List ℕ) → F.faults shelf.old other ≤ F.faults shelf.new other }
 {
@@ -87,7 +88,8 @@ fn zeros(alloc: Global, len: usize) -> Result<Vec<u8>, OutOfMemory>
     Ok(vec![in alloc; 0u8; len]?)
 }
 
-/// The report of three files, or why there is none. The files are taken in this order, each judged whole before the next is read.
+/// The report of three files, or why there is none. The files are taken in this order, each judged
+/// whole before the next is read.
 pub fn text_of<F: Shelf>(
     alloc: Global,
     shelf: &mut F,
@@ -101,7 +103,7 @@ pub fn text_of<F: Shelf>(
     ensures kept { F.files shelf.new ≡ F.files shelf.old }
     ensures counts { (other : List ℕ) → F.faults shelf.old other ≤ F.faults shelf.new other }
 {
-    let Ok(mut buffer) = zeros(alloc, FILE_LIMIT + 1) else {
+    let Ok(mut buffer) = zeros(alloc, MAX_FILE_BYTES + 1) else {
         return Err(Status::OutOfMemory);
     };
     let narrow = match load_module(alloc, shelf, module_name, &mut buffer) {

@@ -1,3 +1,5 @@
+//! How a command ends, and the exit status of the program for it.
+
 ghost use Rattle.std.specs.Prelude.{◌≡◌};
 ghost use Rattle.accmut_app.specs.Status.{number_of};
 
@@ -16,13 +18,15 @@ pub enum Status {
     TestsRefused,
     /// A file could not be read. Nothing was written.
     ReadFault,
-    /// The sink failed: a proper prefix of the text or of the line of a refusal was written, perhaps nothing.
+    /// The sink failed: a proper prefix of the text or of the line of a refusal was written,
+    /// perhaps nothing.
     WriteFault,
     /// No memory could be had. Nothing was written.
     OutOfMemory,
-    /// The first file that isn't accepted has more than 4,194,304 bytes. Nothing was written.
+    /// The first file that isn't accepted has more than `MAX_FILE_BYTES` bytes. Nothing was
+    /// written.
     TooLong,
-    /// A list of mutants would have more than 65,535 of them. No command makes one yet.
+    /// A list of mutants would have more than `MAX_LISTED_MUTANTS`. No command makes one yet.
     TooMany,
 }
 

@@ -1,3 +1,5 @@
+//! The trusted edge: a shelf over the system's files, and a sink over standard output.
+
 ghost use Rattle.std.specs.Prelude.{◌≤◌, length, None, IfOk};
 
 use am_base::{Shelf, ShelfFault, Sink, SinkFailed};
@@ -5,8 +7,9 @@ use std::fs;
 use std::io::{self, ErrorKind, Read, Seek, SeekFrom, Write};
 use std::rt::Files;
 
-/// A shelf of the files of the system. It tells nothing of what they hold. Its count of faults is that of every name: it rises at each
-/// call that gives no bytes, want of memory in opening a file included.
+/// A shelf of the files of the system. It tells nothing of what they hold. Its count of faults is
+/// that of every name: it rises at each call that gives no bytes, want of memory in opening a file
+/// included.
 #[derive(Drop)]
 pub struct FileShelf<'a, R> {
     rt: &'a R,
@@ -20,7 +23,7 @@ impl<'a, R: Files> FileShelf<'a, R> {
     }
 }
 
-/// Opens a file, goes to a place in it and reads once.
+/// Opens a file, seeks to an offset in bytes and reads once.
 fn read_once<R: Files>(rt: &R, name: &str, from: u64, into: &mut [u8]) -> io::Result<usize>
     ensures { IfOk result (λ count. count ≤ length into.old) }
 {

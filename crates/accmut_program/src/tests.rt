@@ -1,3 +1,5 @@
+//! Each adapter over the system that the tests run on.
+
 use crate::adapters::{FileShelf, StdoutSink};
 use am_base::{Shelf, ShelfFault, Sink};
 use std::fs;

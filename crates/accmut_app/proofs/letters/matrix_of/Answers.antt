@@ -12,7 +12,8 @@ add-requires-clause-few c =
 pub loop-test-preserved : goal.loop-test-preserved
 loop-test-preserved c = record {
   mutants = search rules;
-  each = matrix_more c.args.code.now c.args.variants.now c.as_slice-test-items.result.now c.loop-test.test-index c.loop-test.matrix.tests c.add.new.self.tests c.test-item.result c.as_slice.result.now
+  each = matrix_more c.args.code.now c.args.variants.now c.as_slice-test-items.result.now c.loop-test.test-index c.loop-test.matrix.tests c.add.new.self.tests
+      c.test-item.result c.as_slice.result.now
       c.loop-test-test.true c.test-item.is (ap (λ grid. grid.tests) c.in_ok-add.ensures.ok) c.loop-test.invariant.each
       (subst (λ row. AreVerdicts c.args.code.now c.args.variants.now c.test-item.result row) (sym c.as_slice.ensures.value) c.in_ok-letters.ensures);
 }
