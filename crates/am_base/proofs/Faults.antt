@@ -1,10 +1,12 @@
 -- The faults of a shelf in memory: how a call counts.
-use Rattle.std.proofs.Common.{◌≡◌, ℕ, ◌+◌, ◌-◌, ◌^◌, ◌<◌, ◌≤◌, List, min, Bool, true, false, if◌then◌else◌, is_some, ◌⊎◌, inl, inr, refl, sym, subst, add-one, le_refl, arith}
+use Rattle.std.proofs.Common.{◌≡◌, ℕ, ◌+◌, ◌-◌, ◌^◌, ◌<◌, ◌≤◌, List, min, Bool, true, false, if◌then◌else◌, is_some, ◌⊎◌, inl, inr, refl, sym, subst, add-one}
+use Rattle.std.proofs.Common.{le_refl, arith}
 use Rattle.std.proofs.lemmas.Bool.Decides.{nat_tests}
 use Rattle.am_base.specs.Cause.{Rose}
 use Rattle.am_base.specs.Files.{MemoryFiles, file_in, is_listed, listed_calls, fault_count, calls_after, is_next_listed}
 
-listed_calls-next : (failing : List ℕ) (calls : ℕ) → listed_calls failing (calls + 1) ≡ listed_calls failing calls + (if is_listed failing (calls + 1) then 1 else 0)
+listed_calls-next : (failing : List ℕ) (calls : ℕ) → listed_calls failing (calls + 1) ≡ listed_calls failing calls +
+    (if is_listed failing (calls + 1) then 1 else 0)
 unfolding listed_calls
 listed_calls-next failing calls = rw add-one refl
 
@@ -24,7 +26,8 @@ unfolding count_at
 count_at-next true failing calls = omega (arith, listed_calls-next failing calls)
 count_at-next false failing calls = omega arith
 
-count_at-listed : (held : Bool) (failing : List ℕ) (calls : ℕ) → is_listed failing (calls + 1) ≡ true → count_at held failing calls < count_at held failing (calls + 1)
+count_at-listed : (held : Bool) (failing : List ℕ) (calls : ℕ) → is_listed failing (calls + 1) ≡ true
+    → count_at held failing calls < count_at held failing (calls + 1)
 unfolding count_at
 count_at-listed true failing calls listed = grind (arith, listed_calls-next)
 count_at-listed false failing calls listed = omega arith

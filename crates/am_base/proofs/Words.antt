@@ -1,4 +1,5 @@
-use Rattle.std.proofs.Common.{◌≡◌, ℕ, ◌+◌, ◌-◌, ◌*◌, ◌/◌, ◌%◌, ◌^◌, ◌<◌, ◌≤◌, zero, suc, arith, ℤ, pos, negsuc, ap, ◌∙◌, refl, ◌≢◌, None, w64, to_z, of_z, neg_ℤ}
+use Rattle.std.proofs.Common.{◌≡◌, ℕ, ◌+◌, ◌-◌, ◌*◌, ◌/◌, ◌%◌, ◌^◌, ◌<◌, ◌≤◌, zero, suc, arith, ℤ, pos, negsuc, ap, ◌∙◌, refl, ◌≢◌, None, w64, to_z, of_z}
+use Rattle.std.proofs.Common.{neg_ℤ}
 use Rattle.std.specs.Int.RustNames.{int_div, int_rem}
 use Rattle.std.specs.Int.Signed.{mag, mag_rem}
 use mir.Val.{SFits}
@@ -51,7 +52,8 @@ nonzero W16 a b y h e t = grind (arith, ints, nat_tests)
 nonzero W32 a b y h e t = grind (arith, ints, nat_tests)
 nonzero W64 a b y h e t = grind (arith, ints, nat_tests)
 
-pub no_overflow : (w : Width) (a b : ℕ) (x y : ℤ) → a < 2 ^ bits_of w → b < 2 ^ bits_of w → x ≡ signed w a → y ≡ signed w b → division_trap w a b ≡ None → y ≡ negsuc 0 → x ≡ negsuc (2 ^ 63 - 1) → ⊥
+pub no_overflow : (w : Width) (a b : ℕ) (x y : ℤ) → a < 2 ^ bits_of w → b < 2 ^ bits_of w → x ≡ signed w a → y ≡ signed w b → division_trap w a b ≡ None
+    → y ≡ negsuc 0 → x ≡ negsuc (2 ^ 63 - 1) → ⊥
 no_overflow W1 a b x y h k e f t p q = grind (arith, ints, nat_tests)
 no_overflow W8 a b x y h k e f t p q = grind (arith, ints, nat_tests)
 no_overflow W16 a b x y h k e f t p q = grind (arith, ints, nat_tests)
@@ -59,12 +61,17 @@ no_overflow W32 a b x y h k e f t p q = grind (arith, ints, nat_tests)
 no_overflow W64 a b x y h k e f t p q = grind (arith, ints, nat_tests)
 
 -- what `/` and `%` ask of the two signed values, as the code writes them
-pub can_divide : (w : Width) (a b : ℕ) (x y : ℤ) → a < 2 ^ bits_of w → b < 2 ^ bits_of w → mag x < 2 ^ 63 → mag y < 2 ^ 63 → x ≡ signed w a → y ≡ signed w b → division_trap w a b ≡ None →
+pub can_divide : (w : Width) (a b : ℕ) (x y : ℤ) → a < 2 ^ bits_of w → b < 2 ^ bits_of w → mag x < 2 ^ 63 → mag y < 2 ^ 63 → x ≡ signed w a → y ≡ signed w b
+    → division_trap w a b ≡ None →
     (0 < of_z w64 y) × SFits w64 (int_div (to_z w64 (of_z w64 x)) (to_z w64 (of_z w64 y)))
-can_divide w a b x y h k fx fy e f t =
-    (nonzero w a b y k f t, rw (to_z-of_z w64 x (record { sfits = fx }), to_z-of_z w64 y (record { sfits = fy })) (quotient_fits x y fx (no_overflow w a b x y h k e f t)))
+can_divide w a b x y h k fx fy e f t = (
+  nonzero w a b y k f t,
+  rw (to_z-of_z w64 x (record { sfits = fx }), to_z-of_z w64 y (record { sfits = fy }))
+      (quotient_fits x y fx (no_overflow w a b x y h k e f t)),
+)
 
-pub ok_quotient : (w : Width) (a b : ℕ) (x y : ℤ) (r : ℕ) → a < 2 ^ bits_of w → b < 2 ^ bits_of w → mag x < 2 ^ 63 → mag y < 2 ^ 63 → x ≡ signed w a → y ≡ signed w b → division_trap w a b ≡ None →
+pub ok_quotient : (w : Width) (a b : ℕ) (x y : ℤ) (r : ℕ) → a < 2 ^ bits_of w → b < 2 ^ bits_of w → mag x < 2 ^ 63 → mag y < 2 ^ 63 → x ≡ signed w a
+    → y ≡ signed w b → division_trap w a b ≡ None →
     r ≡ word_of w (to_z w64 (of_z w64 (int_div (to_z w64 (of_z w64 x)) (to_z w64 (of_z w64 y))))) → r ≡ word_of w (int_div (signed w a) (signed w b))
 ok_quotient w a b x y r h k fx fy e f t g =
     let fits = quotient_fits x y fx (no_overflow w a b x y h k e f t) in
@@ -73,7 +80,8 @@ ok_quotient w a b x y r h k fx fy e f t g =
     let three : to_z w64 (of_z w64 (int_div x y)) ≡ int_div x y = to_z-of_z w64 (int_div x y) fits in
     cc
 
-pub ok_remainder : (w : Width) (a b : ℕ) (x y : ℤ) (r : ℕ) → a < 2 ^ bits_of w → b < 2 ^ bits_of w → mag x < 2 ^ 63 → mag y < 2 ^ 63 → x ≡ signed w a → y ≡ signed w b → division_trap w a b ≡ None →
+pub ok_remainder : (w : Width) (a b : ℕ) (x y : ℤ) (r : ℕ) → a < 2 ^ bits_of w → b < 2 ^ bits_of w → mag x < 2 ^ 63 → mag y < 2 ^ 63 → x ≡ signed w a
+    → y ≡ signed w b → division_trap w a b ≡ None →
     r ≡ word_of w (to_z w64 (of_z w64 (int_rem (to_z w64 (of_z w64 x)) (to_z w64 (of_z w64 y))))) → r ≡ word_of w (int_rem (signed w a) (signed w b))
 ok_remainder w a b x y r h k fx fy e f t g =
     let fits : SFits w64 (int_rem x y) = record { sfits = omega (arith, mag_rem x y) } in

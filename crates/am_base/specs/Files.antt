@@ -1,5 +1,6 @@
 -- What a shelf tells of its files, and what a read of a whole file finds.
-use Rattle.std.specs.Prelude.{◌≡◌, ℕ, ◌+◌, ◌-◌, ◌^◌, zero, suc, List, map, min, nat_eq, nat_lt, Bool, ◌&&◌, if◌then◌else◌, Option, None, Some, IsSome, IfSome, IsSomeAnd, is_some, String, string_bytes}
+use Rattle.std.specs.Prelude.{◌≡◌, ℕ, ◌+◌, ◌-◌, ◌^◌, zero, suc, List, map, min, nat_eq, nat_lt, Bool, ◌&&◌, if◌then◌else◌, Option, None, Some, IsSome, IfSome}
+use Rattle.std.specs.Prelude.{IsSomeAnd, is_some, String, string_bytes}
 use Rattle.std.specs.List.{find, list_any}
 use Rattle.std.specs.Option.{option_map}
 use Rattle.std.specs.Str.{bytes_eq}

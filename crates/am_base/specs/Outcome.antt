@@ -1,7 +1,8 @@
 -- The numbers of the traps.
 use Rattle.std.specs.Prelude.{ℕ}
 use Rattle.am_base.specs.declared.outcome.Trap.{Trap}
-use Rattle.am_base.specs.declared.outcome.Trap.TheVariants.{DivideByZero, DivideOverflow, AddressRange, ConstantWrite, UnsetRegister, Unreachable, Abort, DepthFull, RegistersFull, MemoryFull, OutputFull, PortRefused}
+use Rattle.am_base.specs.declared.outcome.Trap.TheVariants.{DivideByZero, DivideOverflow, AddressRange, ConstantWrite, UnsetRegister, Unreachable, Abort}
+use Rattle.am_base.specs.declared.outcome.Trap.TheVariants.{DepthFull, RegistersFull, MemoryFull, OutputFull, PortRefused}
 
 -- the place of a trap in the list of traps, from 1
 abbrev pub trap_number : Trap → ℕ

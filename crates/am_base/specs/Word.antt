@@ -1,5 +1,6 @@
 -- Words of 1 to 64 bits: their signed values, and one formula for each operation over unbounded whole numbers.
-use Rattle.std.specs.Prelude.{ℕ, ◌+◌, ◌-◌, ◌*◌, ◌/◌, ◌%◌, ◌^◌, ◌<◌, suc, Bool, ◌&&◌, not, if◌then◌else◌, nat_lt, nat_le, ◌==◌, ℤ, pos, negsuc, ◌-ℤ◌, ◌≤ℤ◌, ◌<ℤ◌, bit_and, bit_or, bit_xor, Result, Ok, Err, Option, Some, None}
+use Rattle.std.specs.Prelude.{ℕ, ◌+◌, ◌-◌, ◌*◌, ◌/◌, ◌%◌, ◌^◌, ◌<◌, suc, Bool, ◌&&◌, not, if◌then◌else◌, nat_lt, nat_le, ◌==◌, ℤ, pos, negsuc, ◌-ℤ◌, ◌≤ℤ◌, ◌<ℤ◌}
+use Rattle.std.specs.Prelude.{bit_and, bit_or, bit_xor, List, [], ◌∷◌, Result, Ok, Err, Option, Some, None}
 use Rattle.std.specs.Int.RustNames.{int_lt, int_div, int_rem}
 use Rattle.am_base.specs.declared.word.Width.{Width}
 use Rattle.am_base.specs.declared.word.Width.TheVariants.{W1, W8, W16, W32, W64}
@@ -11,6 +12,11 @@ use Rattle.am_base.specs.declared.word.Cast.{Cast}
 use Rattle.am_base.specs.declared.word.Cast.TheVariants.{Trunc, ZExt, SExt, PtrToInt, IntToPtr}
 use Rattle.am_base.specs.declared.outcome.Trap.{Trap}
 use Rattle.am_base.specs.declared.outcome.Trap.TheVariants.{DivideByZero, DivideOverflow}
+
+-- the first of some words, 0 if there is none
+abbrev pub first_of : List ℕ → ℕ
+first_of [] = 0
+first_of (x ∷ xs) = x
 
 -- how many bits a word has
 abbrev pub bits_of : Width → ℕ

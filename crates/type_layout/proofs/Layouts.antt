@@ -1,8 +1,9 @@
 -- Bounds on the ends of fields, from the bound on the sizes of a type and the types inside it.
-use Rattle.std.proofs.Common.{◌≡◌, ℕ, zero, suc, ◌+◌, ◌<◌, ◌≤◌, ◌^◌, max, List, [], ◌∷◌, length, get_or, map, take, arith, sym, ap, refl}
+use Rattle.std.proofs.Common.{◌≡◌, ℕ, zero, suc, ◌+◌, ◌<◌, ◌≤◌, max, List, [], ◌∷◌, length, get_or, map, take, arith, sym, ap, refl}
 use Rattle.std.specs.List.{fold}
 use Rattle.std.proofs.lemmas.Grind.{common_steps}
 use Rattle.std.proofs.lemmas.List.{take_more}
+use Rattle.am_base.specs.declared.limits.TheConstants.{MAX_TYPE_BYTES}
 use Rattle.type_layout.specs.declared.ty.Ty.{Ty}
 use Rattle.type_layout.specs.declared.ty.Ty.TheOpen.{Struct}
 use Rattle.type_layout.specs.Layout.{round_up}
@@ -33,15 +34,17 @@ end_part [] at (suc i) = omega arith
 end_part (x ∷ xs) at zero = end_rises (map layout_of (x ∷ xs)) at
 end_part (x ∷ xs) at (suc i) = end_part xs (round_up at (layout_of x).align + (layout_of x).size) i
 
-pub one_most : (fields : List Ty) (i : ℕ) (f : Ty) → i < length fields → f ≡ get_or fields i f → struct_most fields ≤ 2 ^ 20 → (layout_of f).most ≤ 2 ^ 20
+pub one_most : (fields : List Ty) (i : ℕ) (f : Ty) → i < length fields → f ≡ get_or fields i f → struct_most fields ≤ MAX_TYPE_BYTES
+    → (layout_of f).most ≤ MAX_TYPE_BYTES
 one_most fields i f h e l = omega (arith, most_each fields (layout_step (Struct (map layout_of fields))).size i f h e)
 
-pub end_small : (fields : List Ty) (i n : ℕ) → n ≡ end_after 0 (map layout_of (take i fields)) → struct_most fields ≤ 2 ^ 20 → n ≤ 2 ^ 20
+pub end_small : (fields : List Ty) (i n : ℕ) → n ≡ end_after 0 (map layout_of (take i fields)) → struct_most fields ≤ MAX_TYPE_BYTES → n ≤ MAX_TYPE_BYTES
 end_small fields i n e l = omega (arith, end_part fields 0 i, most_start (map layout_of fields) (layout_step (Struct (map layout_of fields))).size)
 
 -- the place after field i
-pub end_next : (fields : List Ty) (i at : ℕ) (f : Ty) → i < length fields → f ≡ get_or fields i f → at ≡ end_after 0 (map layout_of (take i fields)) → struct_most fields ≤ 2 ^ 20 →
-    round_up at (layout_of f).align + (layout_of f).size ≤ 2 ^ 20
+pub end_next : (fields : List Ty) (i at : ℕ) (f : Ty) → i < length fields → f ≡ get_or fields i f → at ≡ end_after 0 (map layout_of (take i fields))
+    → struct_most fields ≤ MAX_TYPE_BYTES →
+    round_up at (layout_of f).align + (layout_of f).size ≤ MAX_TYPE_BYTES
 end_next fields i at f h e p l =
     let more = end_small fields (i + 1) _ refl l in
     let step : end_after 0 (map layout_of (take (i + 1) fields)) ≡ round_up at (layout_of f).align + (layout_of f).size =

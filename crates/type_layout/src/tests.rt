@@ -1,15 +1,17 @@
-ghost use Rattle.std.specs.Prelude.{◌≡◌, ◌≤◌, ◌^◌, length, IfOk};
+//! Layouts of structs with padding, worked out by hand.
+
+ghost use Rattle.std.specs.Prelude.{◌≡◌, ◌≤◌, length, IfOk};
 ghost use Rattle.type_layout.specs.Types.{layout_of};
 
 use crate::{Ty, align_of, offset, size_of};
-use am_base::{OutOfMemory, Width};
+use am_base::{MAX_TYPE_BYTES, OutOfMemory, Width};
 use sqlite_items::{Boxed, Items};
 use std::alloc::Global;
 use std::test::Fail;
 
 /// `{ i8, [3 x i16], i32, i8 }`.
 fn padded(alloc: Global) -> Result<Ty, OutOfMemory>
-    ensures small { IfOk result (λ t. (layout_of t).most ≤ 2 ^ 20) }
+    ensures small { IfOk result (λ t. (layout_of t).most ≤ MAX_TYPE_BYTES) }
     ensures fields { IfOk result (λ t. length (layout_of t).offsets ≡ 4) }
 {
     let halves = Boxed::new(alloc, Ty::Int(Width::W16))?;

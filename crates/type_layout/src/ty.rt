@@ -1,3 +1,5 @@
+//! The types of values in memory.
+
 use am_base::Width;
 use sqlite_items::{Boxed, Items};
 

@@ -12,7 +12,8 @@ bounds-fields-k c = omega (arith, length-offsets c.args.fields.now 0, c.requires
 
 pub layout_type-requires : goal.layout_type-requires
 layout_type-requires c =
-    one_most c.args.fields.now c.args.k c.index-fields-k.result (omega (arith, length-offsets c.args.fields.now 0, c.requires.field)) c.index-fields-k.is c.requires.small
+    one_most c.args.fields.now c.args.k c.index-fields-k.result (omega (arith, length-offsets c.args.fields.now 0, c.requires.field)) c.index-fields-k.is
+    c.requires.small
 
 pub returns : goal.returns
 returns c =
