@@ -1,3 +1,4 @@
+//! Numbers the items of a slice by the first equal one.
 ghost use Rattle.std.specs.Prelude.{◌≡◌, Bool, ◌<◌, ◌^◌, length, IfOk};
 ghost use Rattle.std.specs.List.{position_or_len};
 ghost use Rattle.std.specs.Iterator.Order.{ActsAsAtTwo};

@@ -1,5 +1,6 @@
 -- A replacement added at a place: what it does to the places, and that the table stays as its invariant says.
-use Rattle.std.proofs.Common.{◌≡◌, ◌≢◌, ◌⊎◌, ◌↔◌, inl, inr, ℕ, zero, suc, ◌<◌, ◌≤◌, List, [], ◌∷◌, length, get_or, set, Option, Some, None, Result, Ok, Err, refl, sym, ap, subst, ◌∙◌, arith, slice_get, unwrap_or, IfOk, OnErr, length-append, length-set}
+use Rattle.std.proofs.Common.{◌≡◌, ◌≢◌, ◌⊎◌, ◌↔◌, inl, inr, ℕ, zero, suc, ◌<◌, ◌≤◌, List, [], ◌∷◌, length, get_or, set, Option, Some, None, Result, Ok, Err}
+use Rattle.std.proofs.Common.{refl, sym, ap, subst, ◌∙◌, arith, slice_get, unwrap_or, IfOk, OnErr, length-append, length-set}
 use mathlib.Core.Logic.{⊎_elim}
 use Rattle.std.specs.List.{Contains}
 use Rattle.std.proofs.lemmas.Bool.{cases_eq}
@@ -33,16 +34,19 @@ module _ (old mid : List Replacements) (at : ℕ) (s : Replacements) (room : Are
       (λ n. mutants-set-other mid at q t n ∙ room.mutants q)
       (cases_eq q at)
 
-  pub same-place : {E : Type 0} (r : Result ℕ E) (t : Replacements) → OnErr r ((t.instrs.keys ≡ s.instrs.keys) × (t.mutants.items ≡ s.mutants.items)) → OnErr r (AreSame old (set mid at t))
+  pub same-place : {E : Type 0} (r : Result ℕ E) (t : Replacements) → OnErr r ((t.instrs.keys ≡ s.instrs.keys) × (t.mutants.items ≡ s.mutants.items))
+      → OnErr r (AreSame old (set mid at t))
   same-place (Ok n) t h = tt
   same-place (Err e) t h = record {
     mentioned = mentioned-set mid at t s l (h.0 ∙ ap (λ (t : Replacements). t.instrs.keys) is) ∙ room.mentioned;
     mutants = mutants-same t h.1;
   }
 
-  pub added-place : {E : Type 0} (r : Result ℕ E) (t : Replacements) (original : Instr) (m : ℕ) (with : Instr) → IfOk r (λ n. IsNumbered original s.instrs.keys with n t.instrs.keys)
+  pub added-place : {E : Type 0} (r : Result ℕ E) (t : Replacements) (original : Instr) (m : ℕ) (with : Instr)
+      → IfOk r (λ n. IsNumbered original s.instrs.keys with n t.instrs.keys)
       → IfOk r (λ n. n ≤ length t.instrs.keys) → IfOk r (λ n. (k : ℕ) → Contains t.mutants.items k ↔ (((k ≡ m) × (0 < n)) ⊎ Contains s.mutants.items k))
-      → AreDifferent t.instrs.keys → length t.instrs.keys ≤ length t.mutants.items → IsRising t.mutants.items → IfOk r (λ n. IsAdded original old (set mid at t) at m with n)
+      → AreDifferent t.instrs.keys → length t.instrs.keys ≤ length t.mutants.items → IsRising t.mutants.items
+      → IfOk r (λ n. IsAdded original old (set mid at t) at m with n)
   added-place (Err e) t original m with h1 h2 h3 d o u = tt
   added-place (Ok n) t original m with h1 h2 h3 d o u =
       let a = replacements-set mid at t l in
@@ -50,7 +54,8 @@ module _ (old mid : List Replacements) (at : ℕ) (s : Replacements) (room : Are
       let p = replacements-before in
       let q = mutants-before in
       record {
-        numbered = subst (λ (x : List Instr). IsNumbered original x with n (replacements_in (set mid at t) at)) (sym p) (subst (λ (y : List Instr). IsNumbered original s.instrs.keys with n y) (sym a) h1);
+        numbered = subst (λ (x : List Instr). IsNumbered original x with n (replacements_in (set mid at t) at)) (sym p)
+            (subst (λ (y : List Instr). IsNumbered original s.instrs.keys with n y) (sym a) h1);
         given = rw a h2;
         mutants = λ k. let f = h3 k in (
           λ x. ⊎_elim inl (λ y. inr (subst (λ (z : List ℕ). Contains z k) (sym q) y)) (f.0 (subst (λ (z : List ℕ). Contains z k) b x)),
@@ -70,7 +75,8 @@ chosen-set [] m x l = absurd (omega arith)
 chosen-set (c ∷ cs) zero x l = refl
 chosen-set (c ∷ cs) (suc m) x l = chosen-set cs m x (omega arith)
 
-chosen-set-other : (choices : List (Option (ℕ × ℕ))) (m n : ℕ) (x : Option (ℕ × ℕ)) → n ≢ m → unwrap_or (slice_get (set choices m x) n) None ≡ unwrap_or (slice_get choices n) None
+chosen-set-other : (choices : List (Option (ℕ × ℕ))) (m n : ℕ) (x : Option (ℕ × ℕ)) → n ≢ m
+    → unwrap_or (slice_get (set choices m x) n) None ≡ unwrap_or (slice_get choices n) None
 chosen-set-other [] m n x ne = refl
 chosen-set-other (c ∷ cs) zero zero x ne = absurd (ne refl)
 chosen-set-other (c ∷ cs) zero (suc n) x ne = refl
@@ -96,7 +102,10 @@ filed-same choices old new s f = record {
   different = λ at. subst (λ (y : List Instr). AreDifferent y) (sym (replacements-same old new at s)) (f.different at);
   mentioned_by_one = λ at. rw (replacements-same old new at s, s.mutants at) (f.mentioned_by_one at);
   rising = λ at. subst (λ (y : List ℕ). IsRising y) (sym (s.mutants at)) (f.rising at);
-  exact = λ at m. (λ x. (f.exact at m).0 (subst (λ (z : List ℕ). Contains z m) (s.mutants at) x), λ x. subst (λ (z : List ℕ). Contains z m) (sym (s.mutants at)) ((f.exact at m).1 x));
+  exact = λ at m. (
+    λ x. (f.exact at m).0 (subst (λ (z : List ℕ). Contains z m) (s.mutants at) x),
+    λ x. subst (λ (z : List ℕ). Contains z m) (sym (s.mutants at)) ((f.exact at m).1 x),
+  );
 }
 
 number-at-same : (at n : ℕ) → number_at (Some (at, n)) at ≡ n
@@ -105,7 +114,8 @@ number-at-same at n = grind (arith, nat_tests)
 number-at-other : (at n q : ℕ) → q ≢ at → number_at (Some (at, n)) q ≡ 0
 number-at-other at n q ne = grind (arith, nat_tests)
 
-module _ (choices : List (Option (ℕ × ℕ))) (old new : List Replacements) (original : Instr) (at m : ℕ) (with : Instr) (number : ℕ) (f : IsFiled choices old) (a : IsAdded original old new at m with number)
+module _ (choices : List (Option (ℕ × ℕ))) (old new : List Replacements) (original : Instr) (at m : ℕ) (with : Instr) (number : ℕ) (f : IsFiled choices old)
+    (a : IsAdded original old new at m with number)
     (unchosen : unwrap_or (slice_get choices m) None ≡ None) (l : m < length choices) where
   before : ℕ → ℕ → ℕ
   before n q = number_at (unwrap_or (slice_get choices n) None) q
@@ -183,11 +193,13 @@ module _ (choices : List (Option (ℕ × ℕ))) (old new : List Replacements) (o
   exact-all : (q n : ℕ) → Contains (mutants_in new q) n ↔ (0 < after n q)
   exact-all q n = ⊎_elim (λ e. subst (λ k. Contains (mutants_in new q) k ↔ (0 < after k q)) (sym e) (exact-one q)) (exact-other n q) (cases_eq n m)
 
-  by_place : (P : List Instr → List ℕ → Type 0) → P (replacements_in new at) (mutants_in new at) → ((q : ℕ) → P (replacements_in old q) (mutants_in old q)) → (q : ℕ) → P (replacements_in new q) (mutants_in new q)
+  by_place : (P : List Instr → List ℕ → Type 0) → P (replacements_in new at) (mutants_in new at) → ((q : ℕ) → P (replacements_in old q) (mutants_in old q))
+      → (q : ℕ) → P (replacements_in new q) (mutants_in new q)
   by_place P here there q =
       ⊎_elim
       (λ i. subst (λ k. P (replacements_in new k) (mutants_in new k)) (sym i) here)
-      (λ ne. subst (λ y. P (replacements_in new q) y) (sym (a.other_mutants q ne)) (subst (λ y. P y (mutants_in old q)) (sym (a.other_replacements q ne)) (there q)))
+      (λ ne. subst (λ y. P (replacements_in new q) y) (sym (a.other_mutants q ne))
+      (subst (λ y. P y (mutants_in old q)) (sym (a.other_replacements q ne)) (there q)))
       (cases_eq q at)
 
   pub filed-add : 1 ≤ m → IsFiled (set choices m (Some (at, number))) new
@@ -203,7 +215,8 @@ module _ (choices : List (Option (ℕ × ℕ))) (old new : List Replacements) (o
     exact = exact-all;
   }
 
-  pub adds : (code : Code) (table : Table) → table_of choices old ≡ table → original ≡ instr_at code at → Adds code table (table_of (set choices m (Some (at, number))) new) m at with
+  pub adds : (code : Code) (table : Table) → table_of choices old ≡ table → original ≡ instr_at code at
+      → Adds code table (table_of (set choices m (Some (at, number))) new) m at with
   adds code table is e =
       let made : Adds code (table_of choices old) (table_of (set choices m (Some (at, number))) new) m at with = record {
         number = number;
@@ -228,10 +241,12 @@ numbered-fits P (same e) p h k i g = h k i g
 numbered-fits P (known j ne e) p h k i g = h k i g
 numbered-fits P {with = w} {before = b} (fresh ne absent) p h k i g = ⊎_elim (h k i) (λ q. subst P q.1 p) (at-push b w k i g)
 
-pub fits-adds : (code : Code) (old new : Table) (m at : ℕ) (with : Instr) → Adds code old new m at with → FitsTable code old → FitsPlace code at with → FitsTable code new
+pub fits-adds : (code : Code) (old new : Table) (m at : ℕ) (with : Instr) → Adds code old new m at with → FitsTable code old → FitsPlace code at with
+    → FitsTable code new
 fits-adds code old new m at with a f p = record {
   each = λ q k i g. ⊎_elim
-      (λ e. subst (λ n. FitsPlace code n i) (sym e) (numbered-fits (FitsPlace code at) a.numbered p (f.each at) k i (subst (λ n. slice_get (replacements_at new n) k ≡ Some i) e g)))
+      (λ e. subst (λ n. FitsPlace code n i) (sym e) (numbered-fits (FitsPlace code at) a.numbered p (f.each at) k i
+      (subst (λ n. slice_get (replacements_at new n) k ≡ Some i) e g)))
       (λ ne. f.each q k i (subst (λ (l : List Instr). slice_get l k ≡ Some i) (a.others q ne) g))
       (cases_eq q at);
 }

@@ -1,5 +1,6 @@
 -- Lists without repeats, and rising lists into which one more goes.
-use Rattle.std.proofs.Common.{◌≡◌, ◌≢◌, ◌⊎◌, ◌↔◌, inl, inr, Bool, true, false, ◌||◌, true≢false, if◌then◌else◌, ℕ, zero, suc, ◌+◌, ◌-◌, ◌<◌, ◌≤◌, List, [], ◌∷◌, ◌++◌, length, get_or, Some, refl, sym, ap, ◌∙◌, arith, slice_get, length-append}
+use Rattle.std.proofs.Common.{◌≡◌, ◌≢◌, ◌⊎◌, ◌↔◌, inl, inr, Bool, true, false, ◌||◌, true≢false, if◌then◌else◌, ℕ, zero, suc, ◌+◌, ◌-◌, ◌<◌, ◌≤◌, List, [], ◌∷◌}
+use Rattle.std.proofs.Common.{◌++◌, length, get_or, Some, refl, sym, ap, ◌∙◌, arith, slice_get, length-append}
 use mathlib.Core.Logic.{⊎_elim}
 use Rattle.std.specs.List.{insert, list_any, Contains}
 use Rattle.std.proofs.lemmas.Option.{slice_get_within}
@@ -28,7 +29,8 @@ different-push is i h absent j k x e f =
     (λ p. ⊎_elim (λ q. absurd (absent k (q ∙ sym (ap Some p.1)))) (λ q. p.0 ∙ sym q.0) (at-push is i k x f))
     (at-push is i j x e)
 
-pub fresh-push : (original : Instr) (before : List Instr) (with : Instr) (number : ℕ) (after : List Instr) → after ≡ before ++ with ∷ [] → number ≡ length after → with ≢ original
+pub fresh-push : (original : Instr) (before : List Instr) (with : Instr) (number : ℕ) (after : List Instr) → after ≡ before ++ with ∷ [] → number ≡ length after
+    → with ≢ original
     → ((k : ℕ) → slice_get before k ≢ Some with) → IsNumbered original before with number after
 fresh-push original before with number after e n ne absent =
     let m : number ≡ length before + 1 = n ∙ ap length e ∙ length-append before (with ∷ []) in
@@ -46,7 +48,8 @@ known_any (x ∷ xs) i zero e = let same : i ≡ x = cc in ap (λ b. b || list_a
 known_any (x ∷ xs) i (suc k) e = or_right (instr_eq i x) (list_any (instr_eq i) xs) (known_any xs i k e)
 
 -- what a set of instructions answers to one that it is given
-pub numbered_insert : (original : Instr) (before after : List Instr) (with k : Instr) (at : ℕ) → with ≢ original → after ≡ insert_key instr_eq before with → slice_get after at ≡ Some k
+pub numbered_insert : (original : Instr) (before after : List Instr) (with k : Instr) (at : ℕ) → with ≢ original → after ≡ insert_key instr_eq before with
+    → slice_get after at ≡ Some k
     → instr_eq with k ≡ true → IsNumbered original before with (at + 1) after
 numbered_insert original before after with k at ne is e h = by (list_any (instr_eq with) before) refl
   where
@@ -65,7 +68,8 @@ numbered_insert original before after with k at ne is e h = by (list_any (instr_
         (λ f. fresh-push original before with (at + 1) after grows (let h = length-append before (with ∷ []) in omega (arith, f.0, ap length grows)) ne absent)
         (at-push before with at with (sym (ap (λ l. slice_get l at) grows) ∙ found))
 
-pub different_numbered : {original with : Instr} {before after : List Instr} {n : ℕ} → IsNumbered original before with n after → AreDifferent before → AreDifferent after
+pub different_numbered : {original with : Instr} {before after : List Instr} {n : ℕ} → IsNumbered original before with n after → AreDifferent before
+    → AreDifferent after
 different_numbered (same e) d = d
 different_numbered (known k ne e) d = d
 different_numbered {with = w} {before = is} (fresh ne absent) d = different-push is w d absent
@@ -88,7 +92,8 @@ zero_numbered (fresh ne absent) z = absurd (omega arith)
 -- ---- one more in its place
 
 -- the elements before a place are below a number that isn't in the list, where the last of them is not above it
-pub all_below : (ns : List ℕ) (n at : ℕ) → IsRising ns → (Contains ns n → ⊥) → 0 < at → at ≤ length ns → get_or ns (at - 1) 0 ≤ n → (k : ℕ) → k < at → get_or ns k 0 < n
+pub all_below : (ns : List ℕ) (n at : ℕ) → IsRising ns → (Contains ns n → ⊥) → 0 < at → at ≤ length ns → get_or ns (at - 1) 0 ≤ n → (k : ℕ) → k < at
+    → get_or ns k 0 < n
 all_below ns n at up absent some within last k l =
     let no : get_or ns (at - 1) 0 ≢ n = (λ e. absent (at - 1, omega arith, get_or_default ns (at - 1) n 0 (omega arith) ∙ e)) in
     ⊎_elim
@@ -98,17 +103,20 @@ all_below ns n at up absent some within last k l =
 
 -- where an element of a list with one more stood before
 placed : (ns : List ℕ) (i n k d : ℕ) → i ≤ length ns
-    → ((k < i) × (get_or (insert ns i n) k d ≡ get_or ns k d)) ⊎ (((k ≡ i) × (get_or (insert ns i n) k d ≡ n)) ⊎ ((i < k) × (get_or (insert ns i n) k d ≡ get_or ns (k - 1) d)))
+    → ((k < i) × (get_or (insert ns i n) k d ≡ get_or ns k d)) ⊎ (((k ≡ i) × (get_or (insert ns i n) k d ≡ n))
+    ⊎ ((i < k) × (get_or (insert ns i n) k d ≡ get_or ns (k - 1) d)))
 placed ns i n k d l =
     ⊎_elim
     (λ b. inl (b, get_or-insert_below ns i n d k b l))
     (λ a. ⊎_elim
-    (λ b. let back : k ≡ k - 1 + 1 = omega arith in inr (inr (b, ap (λ j. get_or (insert ns i n) j d) back ∙ get_or-insert_above ns i n d (k - 1) (omega arith) l)))
+    (λ b. let back : k ≡ k - 1 + 1 = omega arith in
+    inr (inr (b, ap (λ j. get_or (insert ns i n) j d) back ∙ get_or-insert_above ns i n d (k - 1) (omega arith) l)))
     (λ e. let at : k ≡ i = omega arith in inr (inl (at, ap (λ j. get_or (insert ns i n) j d) at ∙ get_or-insert_at ns i n d l)))
     (cases_lt i k))
     (cases_lt k i)
 
-pub rising-insert : (ns : List ℕ) (i n : ℕ) → IsRising ns → i ≤ length ns → ((k : ℕ) → k < i → get_or ns k 0 < n) → ((k : ℕ) → i ≤ k → k < length ns → n < get_or ns k 0) → IsRising (insert ns i n)
+pub rising-insert : (ns : List ℕ) (i n : ℕ) → IsRising ns → i ≤ length ns → ((k : ℕ) → k < i → get_or ns k 0 < n)
+    → ((k : ℕ) → i ≤ k → k < length ns → n < get_or ns k 0) → IsRising (insert ns i n)
 rising-insert ns i n up l low high j k lt within =
     let long = length-insert ns i n l in
     ⊎_elim
@@ -147,4 +155,12 @@ at_least ns up (suc k) l = omega (arith, at_least ns up k (omega arith), up k (s
 pub rising_few : (ns : List ℕ) (bound : ℕ) → IsRising ns → ((m : ℕ) → Contains ns m → m < bound) → length ns ≤ bound
 rising_few [] bound up below = omega arith
 rising_few (n ∷ ns) bound up below =
-    omega (arith, at_least (n ∷ ns) up (length ns) (omega arith), below (get_or (n ∷ ns) (length ns) 0) (length ns, omega arith, get_or_default (n ∷ ns) (length ns) _ 0 (omega arith)))
+    omega (
+      arith,
+      at_least (n ∷ ns) up (length ns) (omega arith),
+      below (get_or (n ∷ ns) (length ns) 0) (
+        length ns,
+        omega arith,
+        get_or_default (n ∷ ns) (length ns) _ 0 (omega arith),
+      ),
+    )

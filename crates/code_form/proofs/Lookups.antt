@@ -18,12 +18,16 @@ read_or is at i d l e = e ∙ get_or_default is at i d l ∙ sym (unwrap_or-slic
 -- a place with replacements is in the list
 pub has_place : (places : List Replacements) (at v : ℕ) → v ≢ 0 → v ≤ length (replacements_in places at) → at < length places
 has_place places at v some given =
-    ⊎_elim (λ l. l) (λ l. let e : length (replacements_in places at) ≡ 0 = ap (λ (is : List Instr). length is) (replacements-past places at l) in absurd (omega (arith, e, some, given))) (cases_lt at (length places))
+    ⊎_elim (λ l. l) (λ l. let e : length (replacements_in places at) ≡ 0 = ap (λ (is : List Instr). length is) (replacements-past places at l) in
+    absurd (omega (arith, e, some, given))) (cases_lt at (length places))
 
-pub place_replacements : (places : List Replacements) (at v : ℕ) (s : Replacements) → v ≢ 0 → v ≤ length (replacements_in places at) → s ≡ get_or places at s → s.instrs.keys ≡ replacements_in places at
-place_replacements places at v s some given e = ap (λ (t : Replacements). t.instrs.keys) e ∙ sym (replacements-at places at s (has_place places at v some given))
+pub place_replacements : (places : List Replacements) (at v : ℕ) (s : Replacements) → v ≢ 0 → v ≤ length (replacements_in places at) → s ≡ get_or places at s
+    → s.instrs.keys ≡ replacements_in places at
+place_replacements places at v s some given e = ap (λ (t : Replacements). t.instrs.keys) e
+    ∙ sym (replacements-at places at s (has_place places at v some given))
 
-pub instr_by_number : (code : Code) (choices : List (Option (ℕ × ℕ))) (places : List Replacements) (at v : ℕ) (is : List Instr) (i : Instr) → v ≢ 0 → is ≡ replacements_in places at → v ≤ length is
+pub instr_by_number : (code : Code) (choices : List (Option (ℕ × ℕ))) (places : List Replacements) (at v : ℕ) (is : List Instr) (i : Instr) → v ≢ 0
+    → is ≡ replacements_in places at → v ≤ length is
     → i ≡ get_or is (v - 1) i → i ≡ instr_of code (table_of choices places) at v
 instr_by_number code choices places at zero is i some e l g = absurd (some refl)
 instr_by_number code choices places at (suc k) is i some e l g =

@@ -18,12 +18,14 @@ at-trimmed [] k = refl
 at-trimmed (l ∷ more) zero = at-put_before l (trimmed more) zero
 at-trimmed (l ∷ more) (suc k) = at-put_before l (trimmed more) (suc k) ∙ at-trimmed more k
 
-at-map : (places : List Replacements) (at : ℕ) (d : Replacements) → at < length places → unwrap_or (slice_get (map (λ (s : Replacements). s.instrs.keys) places) at) [] ≡ (get_or places at d).instrs.keys
+at-map : (places : List Replacements) (at : ℕ) (d : Replacements) → at < length places
+    → unwrap_or (slice_get (map (λ (s : Replacements). s.instrs.keys) places) at) [] ≡ (get_or places at d).instrs.keys
 at-map [] at d l = absurd (omega arith)
 at-map (s ∷ more) zero d l = refl
 at-map (s ∷ more) (suc at) d l = at-map more at d (omega arith)
 
-pub replacements-at : (places : List Replacements) (at : ℕ) (d : Replacements) → at < length places → replacements_in places at ≡ (get_or places at d).instrs.keys
+pub replacements-at : (places : List Replacements) (at : ℕ) (d : Replacements) → at < length places
+    → replacements_in places at ≡ (get_or places at d).instrs.keys
 replacements-at places at d l = at-trimmed (map (λ (s : Replacements). s.instrs.keys) places) at ∙ at-map places at d l
 
 map-past : (places : List Replacements) (at : ℕ) → length places ≤ at → unwrap_or (slice_get (map (λ (s : Replacements). s.instrs.keys) places) at) [] ≡ []
@@ -66,22 +68,26 @@ same-trans a b c p q = record { mentioned = q.mentioned ∙ p.mentioned; mutants
 
 -- ---- one place changed
 
-pub mentioned-set : (places : List Replacements) (at : ℕ) (s d : Replacements) → at < length places → s.instrs.keys ≡ (get_or places at d).instrs.keys → mentioned_in (set places at s) ≡ mentioned_in places
+pub mentioned-set : (places : List Replacements) (at : ℕ) (s d : Replacements) → at < length places → s.instrs.keys ≡ (get_or places at d).instrs.keys
+    → mentioned_in (set places at s) ≡ mentioned_in places
 mentioned-set [] at s d l e = absurd (omega arith)
 mentioned-set (t ∷ more) zero s d l e = ap (λ r. put_before r (mentioned_in more)) e
 mentioned-set (t ∷ more) (suc at) s d l e = ap (put_before t.instrs.keys) (mentioned-set more at s d (omega arith) e)
 
 map-set-other : (places : List Replacements) (at q : ℕ) (s : Replacements) → q ≢ at
-    → unwrap_or (slice_get (map (λ (s : Replacements). s.instrs.keys) (set places at s)) q) [] ≡ unwrap_or (slice_get (map (λ (s : Replacements). s.instrs.keys) places) q) []
+    → unwrap_or (slice_get (map (λ (s : Replacements). s.instrs.keys) (set places at s)) q) [] ≡ unwrap_or
+    (slice_get (map (λ (s : Replacements). s.instrs.keys) places) q) []
 map-set-other [] at q s ne = refl
 map-set-other (t ∷ more) zero zero s ne = absurd (ne refl)
 map-set-other (t ∷ more) zero (suc q) s ne = refl
 map-set-other (t ∷ more) (suc at) zero s ne = refl
 map-set-other (t ∷ more) (suc at) (suc q) s ne = map-set-other more at q s (λ e. ne (ap suc e))
 
-pub replacements-set-other : (places : List Replacements) (at q : ℕ) (s : Replacements) → q ≢ at → replacements_in (set places at s) q ≡ replacements_in places q
+pub replacements-set-other : (places : List Replacements) (at q : ℕ) (s : Replacements) → q ≢ at
+    → replacements_in (set places at s) q ≡ replacements_in places q
 replacements-set-other places at q s ne =
-    at-trimmed (map (λ (s : Replacements). s.instrs.keys) (set places at s)) q ∙ map-set-other places at q s ne ∙ sym (at-trimmed (map (λ (s : Replacements). s.instrs.keys) places) q)
+    at-trimmed (map (λ (s : Replacements). s.instrs.keys) (set places at s)) q ∙ map-set-other places at q s ne
+    ∙ sym (at-trimmed (map (λ (s : Replacements). s.instrs.keys) places) q)
 
 pub mutants-set-other : (places : List Replacements) (at q : ℕ) (s : Replacements) → q ≢ at → mutants_in (set places at s) q ≡ mutants_in places q
 mutants-set-other [] at q s ne = refl
@@ -93,7 +99,8 @@ mutants-set-other (t ∷ more) (suc at) (suc q) s ne = mutants-set-other more at
 pub replacements-set : (places : List Replacements) (at : ℕ) (s : Replacements) → at < length places → replacements_in (set places at s) at ≡ s.instrs.keys
 replacements-set places at s l = at-trimmed (map (λ (s : Replacements). s.instrs.keys) (set places at s)) at ∙ go places at s l
   where
-    go : (places : List Replacements) (at : ℕ) (s : Replacements) → at < length places → unwrap_or (slice_get (map (λ (s : Replacements). s.instrs.keys) (set places at s)) at) [] ≡ s.instrs.keys
+    go : (places : List Replacements) (at : ℕ) (s : Replacements) → at < length places
+        → unwrap_or (slice_get (map (λ (s : Replacements). s.instrs.keys) (set places at s)) at) [] ≡ s.instrs.keys
     go [] at s l = absurd (omega arith)
     go (t ∷ more) zero s l = refl
     go (t ∷ more) (suc at) s l = go more at s (omega arith)

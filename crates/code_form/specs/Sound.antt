@@ -1,5 +1,6 @@
 -- When a code is sound: what every machine may rely on.
-use Rattle.std.specs.Prelude.{◌≡◌, ◌⊎◌, ◌↔◌, ℕ, ◌+◌, ◌-◌, ◌^◌, ◌<◌, ◌≤◌, true, false, List, [], ◌∷◌, length, take, map, flat_map, Option, Some, None, slice_get, Contains, All}
+use Rattle.std.specs.Prelude.{◌≡◌, ◌⊎◌, ◌↔◌, ℕ, ◌+◌, ◌-◌, ◌^◌, ◌<◌, ◌≤◌, true, false, List, [], ◌∷◌, length, take, map, flat_map, Option, Some, None, slice_get}
+use Rattle.std.specs.Prelude.{Contains, All}
 use Rattle.am_base.specs.declared.word.Width.{Width}
 use Rattle.am_base.specs.declared.word.Width.TheVariants.{W1, W32, W64}
 use Rattle.am_base.specs.declared.word.Cast.{Cast as Conversion}
@@ -11,7 +12,8 @@ use Rattle.code_form.specs.declared.instr.Operand.TheVariants.{Reg, Word}
 use Rattle.code_form.specs.declared.instr.Callee.{Callee}
 use Rattle.code_form.specs.declared.instr.Callee.TheVariants.{Func as CallFunc, Port, PutChar, GetChar, Exit, Abort}
 use Rattle.code_form.specs.declared.instr.Instr.{Instr}
-use Rattle.code_form.specs.declared.instr.Instr.TheVariants.{Bin, Cmp, Select, Cast, Freeze, Alloca, Load, Store, Get, Phi, Call, Jump, Branch, Switch, Ret, Unreachable}
+use Rattle.code_form.specs.declared.instr.Instr.TheVariants.{Bin, Cmp, Select, Cast, Freeze, Alloca, Load, Store, Get, Phi, Call, Jump, Branch, Switch, Ret}
+use Rattle.code_form.specs.declared.instr.Instr.TheVariants.{Unreachable}
 use Rattle.code_form.specs.declared.code.TyScalar.{TyScalar}
 use Rattle.code_form.specs.declared.code.TyScalar.TheVariants.{Int, Ptr}
 use Rattle.code_form.specs.declared.code.Block.{Block}
@@ -78,7 +80,8 @@ result_type (Some w) = Some (Int w)
 -- the call goes to something that the code knows, and has its parameters and its result
 abbrev pub CallFits : Code → List TyScalar → Option ℕ → Callee → List Operand → Type 0
 CallFits code types r (CallFunc g) args = (f : Func) × (slice_get code.funcs g ≡ Some f) × HaveTypes types f.params args × GivesMaybe types r f.result
-CallFits code types r (Port p) args = (sign : PortSign) × (slice_get code.signs p ≡ Some sign) × HaveTypes types (map (λ w. Int w) sign.params) args × GivesMaybe types r (result_type sign.result)
+CallFits code types r (Port p) args = (sign : PortSign) × (slice_get code.signs p ≡ Some sign) × HaveTypes types (map (λ w. Int w) sign.params) args
+    × GivesMaybe types r (result_type sign.result)
 CallFits code types r PutChar args = HaveTypes types (Int W32 ∷ []) args × Gives types r (Int W32)
 CallFits code types r GetChar args = HaveTypes types [] args × Gives types r (Int W32)
 CallFits code types r Exit args = HaveTypes types (Int W32 ∷ []) args × (r ≡ None)
@@ -102,7 +105,8 @@ InstrFits code f r (Freeze a) = (t : TyScalar) × HasType f.types t a × Gives f
 InstrFits code f r (Alloca size align count) = (size ≤ MAX_TYPE_BYTES) × IsAlignment align × IsInteger f.types count × Gives f.types r Ptr
 InstrFits code f r (Load w a) = HasType f.types Ptr a × GivesWidth f.types r w
 InstrFits code f r (Store w a b) = HasWidth f.types w a × HasType f.types Ptr b × (r ≡ None)
-InstrFits code f r (Get a literal indices) = HasType f.types Ptr a × (literal < 2 ^ 64) × All (λ i. (i.0 < 2 ^ 64) × HasType f.types (Int i.1) i.2) indices × Gives f.types r Ptr
+InstrFits code f r (Get a literal indices) = HasType f.types Ptr a × (literal < 2 ^ 64) × All (λ i. (i.0 < 2 ^ 64) × HasType f.types (Int i.1) i.2) indices
+    × Gives f.types r Ptr
 InstrFits code f r (Phi entries) =
     (t : TyScalar) × All (λ e. (e.0 < length f.blocks) × HasType f.types t e.1) entries × AreDistinct (map (λ e. e.0) entries) × Gives f.types r t
 InstrFits code f r (Call callee args) = CallFits code f.types r callee args

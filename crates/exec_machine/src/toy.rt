@@ -1,3 +1,4 @@
+//! A small machine for examples and tests.
 ghost use Rattle.std.specs.Prelude.{◌≡◌, ℕ, ◌+◌, ◌*◌, ◌%◌, ◌^◌, ◌<◌, ◌≤◌, [], ◌∷◌, ◌++◌, List, length, map, slice_index, IfOk, OnOk, OnErr, nat_eq};
 ghost use Rattle.std.specs.List.{All, Contains, IsDistinct, IsDistinct-prop, sum_by};
 ghost use Rattle.std.specs.List.Sorted.{IsPermutation};

@@ -17,7 +17,8 @@ use Rattle.ir_rules.specs.declared.local.Local.{Local}
 use Rattle.ir_rules.specs.declared.local.Local.TheVariants.{Value, NoType, Block}
 use Rattle.ir_rules.specs.declared.scope.Scope.{Scope}
 use Rattle.ir_rules.specs.Types.{Kinds}
-use Rattle.ir_rules.specs.Scopes.{counter_after, is_name, is_low, with_name, with_name_or_number, with_parameter, with_block, with_first_block, value_type, value_kind, kind_or_none}
+use Rattle.ir_rules.specs.Scopes.{counter_after, is_name, is_low, with_name, with_name_or_number, with_parameter, with_block, with_first_block, value_type}
+use Rattle.ir_rules.specs.Scopes.{value_kind, kind_or_none}
 use Rattle.ir_rules.specs.Scopes.{is_call, with_result, with_parts, with_item, result_name, first_block_name, written_names, numbered_names, has_low}
 use Rattle.ir_rules.specs.Rules.{is_double_local, inner_double, number_order}
 use Rattle.ir_rules.specs.Settings.{Setting}

@@ -1,3 +1,5 @@
+//! Verdicts and letters, worked out by hand.
+
 use crate::{Letter, Matrix, verdict};
 use am_base::{Ending, Outcome, Trap};
 use am_lists::Bytes;

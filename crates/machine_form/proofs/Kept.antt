@@ -4,7 +4,7 @@ use Rattle.std.specs.Prelude.{◌==◌, ◌+ℤ◌, All}
 use Rattle.std.proofs.lemmas.Option.{slice_get_within, slice_get-get_or}
 use Rattle.am_base.specs.declared.word.Width.{Width}
 use Rattle.am_base.specs.declared.word.Width.TheVariants.{W1, W64}
-use Rattle.am_base.specs.Word.{IsWord, binary_of, compare_of}
+use Rattle.am_base.specs.Word.{IsWord, binary_of, compare_of, first_of}
 use Rattle.code_form.specs.declared.instr.Operand.{Operand}
 use Rattle.code_form.specs.declared.instr.Callee.{Callee}
 use Rattle.code_form.specs.declared.instr.Callee.TheVariants.{Func as CallFunc, Port, PutChar, GetChar, Exit, Abort}
@@ -19,7 +19,7 @@ use Rattle.code_form.specs.Variant.{instr_of}
 use Rattle.machine_form.specs.State.{State}
 use Rattle.machine_form.specs.Straight.{value_of, values_of, scaled_sum}
 use Rattle.machine_form.specs.Edge.{case_of}
-use Rattle.machine_form.specs.Calls.{Answers, first_of, call_change}
+use Rattle.machine_form.specs.Calls.{Answers, call_change}
 use Rattle.machine_form.specs.Next.{next_of}
 use Rattle.machine_form.specs.After.{after_change}
 use Rattle.machine_form.specs.SoundState.{IsSoundState}

@@ -145,16 +145,17 @@ module _ (code : Code) (answers : Answers) (s : State) (r : Option ℕ) where
       length_map : length (map (λ (b : ℕ × ℕ). page_of b.0) (next_of code answers s r i).bytes) ≡ length (next_of code answers s r i).bytes
       length_map = length-map (next_of code answers s r i).bytes (λ b. page_of b.0)
 
-once : (p : ℕ) (s : State) (i : Instr) → toll_of p s i ≤ 1
-once p s (Call callee args) = by (is_port p callee && is_some (values_of s args))
+-- no instruction asks a port twice
+pub toll_small : (p : ℕ) (s : State) (i : Instr) → toll_of p s i ≤ 1
+toll_small p s (Call callee args) = by (is_port p callee && is_some (values_of s args))
   where
     by : (t : Bool) → cond t 1 0 ≤ 1
     by true = omega arith
     by false = omega arith
-once p s _ = omega arith
+toll_small p s _ = omega arith
 
 pub machine_light : (code : Code) (table : Table) (answers : Answers) → IsLight (machine_of code table answers)
 machine_light code table answers = record {
   weight = λ v s live knows. next_light code answers s (result_at code s.running.place) (instr_of code table s.running.place v);
-  toll = λ p v s live knows. once p s (instr_of code table s.running.place v);
+  toll = λ p v s live knows. toll_small p s (instr_of code table s.running.place v);
 }

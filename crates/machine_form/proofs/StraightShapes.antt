@@ -13,7 +13,7 @@ use Rattle.am_base.specs.declared.word.Width.TheVariants.{W64}
 use Rattle.am_base.specs.declared.word.Cast.{Cast as Conversion}
 use Rattle.am_base.specs.declared.word.Cast.TheVariants.{Trunc, ZExt, SExt, PtrToInt, IntToPtr}
 use Rattle.code_form.specs.declared.instr.Operand.{Operand}
-use Rattle.am_base.specs.Word.{binary_of, bits_of, word_of}
+use Rattle.am_base.specs.Word.{binary_of, bits_of, first_of, word_of}
 use Rattle.code_form.specs.Layout.{bytes_of, round_up}
 use Rattle.code_form.specs.declared.code.TyScalar.{TyScalar}
 use Rattle.code_form.specs.declared.code.Func.{Func}
@@ -30,7 +30,7 @@ use Rattle.machine_form.specs.declared.change.Control.TheVariants.{Next}
 use Rattle.machine_form.specs.State.{State}
 use Rattle.machine_form.specs.Straight.{value_of, values_of, with_value, trap_change, word_change, result_change, write_of, load_change, store_change}
 use Rattle.machine_form.specs.Straight.{alloca_change, differing, bytes_from, is_in_range, number_of, scaled_sum}
-use Rattle.machine_form.specs.Calls.{Answers, first_of, width_of_sign, answer_change, put_change, take_change, call_change}
+use Rattle.machine_form.specs.Calls.{Answers, width_of_sign, answer_change, put_change, take_change, call_change}
 use Rattle.machine_form.specs.Next.{next_of}
 use Rattle.machine_form.proofs.ChangeShapes.{AreReal, IsStraightChange, IsNoFunction, StaysInBlock}
 use Rattle.machine_form.proofs.StraightLaw.{registers_have}

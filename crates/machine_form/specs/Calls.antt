@@ -4,7 +4,7 @@ use Rattle.am_base.specs.declared.limits.TheConstants.{MAX_FRAMES, MAX_LIVE_REGI
 use Rattle.am_base.specs.declared.word.Width.{Width}
 use Rattle.am_base.specs.declared.outcome.Ending.TheVariants.{Return, Exit as Exited}
 use Rattle.am_base.specs.declared.outcome.Trap.TheVariants.{Abort as Aborted, DepthFull, RegistersFull, OutputFull, PortRefused}
-use Rattle.am_base.specs.Word.{bits_of}
+use Rattle.am_base.specs.Word.{bits_of, first_of}
 use Rattle.code_form.specs.declared.instr.Callee.{Callee}
 use Rattle.code_form.specs.declared.instr.Callee.TheVariants.{Func, Port, PutChar, GetChar, Exit, Abort}
 use Rattle.code_form.specs.declared.code.Code.{Code}
@@ -56,10 +56,6 @@ put_change s r x =
 abbrev pub take_change : State → Option ℕ → Option ℕ → Change
 take_change s r None = word_change s r (2 ^ 32 - 1)
 take_change s r (Some b) = record { writes = write_of r b; bytes = []; top = s.top; put = None; took = true; control = Next }
-
-abbrev pub first_of : List ℕ → ℕ
-first_of [] = 0
-first_of (x ∷ xs) = x
 
 abbrev pub call_change : Code → Answers → State → Option ℕ → Callee → List ℕ → Change
 call_change code answers s r (Func f) args = enter_change code s f args

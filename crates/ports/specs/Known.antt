@@ -2,16 +2,12 @@
 use Rattle.std.specs.Prelude.{ℕ, ◌%◌, ◌^◌, ◌==◌, ◌&&◌, ◌||◌, nat_le, if◌then◌else◌, List, [], ◌∷◌, Some}
 use Rattle.std.specs.Int.RustNames.{unsigned_abs}
 use Rattle.am_base.specs.declared.word.Width.{Width}
-use Rattle.am_base.specs.Word.{bits_of, signed}
+use Rattle.am_base.specs.Word.{bits_of, first_of, signed}
 use Rattle.code_form.specs.declared.sign.PortSign.{PortSign}
 
 -- the sign of a function from one word of a width to another word of it
 abbrev pub sign_of_word : List ℕ → Width → PortSign
 sign_of_word name w = record { name = name; params = w ∷ []; result = Some w }
-
-abbrev pub first_of : List ℕ → ℕ
-first_of [] = 0
-first_of (x ∷ xs) = x
 
 -- the absolute value of a signed word, modulo 2 ^ w: that of the least one is the word itself
 abbrev pub absolute : Width → ℕ → ℕ

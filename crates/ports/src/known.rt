@@ -1,9 +1,9 @@
 //! Four functions of the C library as ports.
 ghost use Rattle.std.specs.Prelude.{◌≡◌, ℕ, List, [], ◌∷◌, IfOk};
 ghost use Rattle.am_base.specs.declared.word.Width.{Width};
-ghost use Rattle.am_base.specs.Word.{IsWord};
+ghost use Rattle.am_base.specs.Word.{IsWord, first_of};
 ghost use Rattle.ports.specs.Words.{AreWords};
-ghost use Rattle.ports.specs.Known.{sign_of_word, first_of};
+ghost use Rattle.ports.specs.Known.{sign_of_word};
 
 use crate::port::Port;
 use am_base::{OutOfMemory, Width};
@@ -75,7 +75,7 @@ impl<F: Function> Known<F> {
 
 impl<F: Function> Port for Known<F> {
     ghost use Rattle.std.specs.Prelude.{Some};
-    ghost use Rattle.ports.specs.Known.{sign_of_word, first_of};
+    ghost use Rattle.ports.specs.Known.{sign_of_word};
 
     ghost sign = { λ p. sign_of_word F.name F.width };
 

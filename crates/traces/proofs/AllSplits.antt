@@ -1,5 +1,6 @@
 -- The splits are the classes that part, in order.
-use Rattle.std.proofs.Common.{◌≡◌, ℕ, zero, suc, ◌+◌, ◌≤◌, ◌<◌, Bool, true, false, ◌&&◌, not, nat_lt, if◌then◌else◌, List, [], ◌∷◌, ◌++◌, length, take, slice_get, slice_index, get_or, refl, sym, ap, ◌∙◌, subst, arith, ⊎_elim, append-nil, add-one}
+use Rattle.std.proofs.Common.{◌≡◌, ℕ, zero, suc, ◌+◌, ◌≤◌, ◌<◌, Bool, true, false, ◌&&◌, not, nat_lt, if◌then◌else◌, List, [], ◌∷◌, ◌++◌, length, take}
+use Rattle.std.proofs.Common.{slice_get, slice_index, get_or, refl, sym, ap, ◌∙◌, subst, arith, ⊎_elim, append-nil, add-one}
 use Rattle.std.specs.Prelude.{◌↔◌}
 use Rattle.std.specs.List.{AllPairs, Contains, flat_map, list_any}
 use Rattle.std.specs.List.Sorted.{IsStrictlyIncreasing}
@@ -38,17 +39,22 @@ nowhere : (k : ℕ) → Contains [] k → ⊥
 nowhere k c = let l = c.1 in omega arith
 
 -- rising lists of the same numbers are equal
-same_rising : (xs ys : List ℕ) → AllPairs (λ a b. a < b) xs → AllPairs (λ a b. a < b) ys → ((k : ℕ) → Contains xs k → Contains ys k) → ((k : ℕ) → Contains ys k → Contains xs k) → xs ≡ ys
+same_rising : (xs ys : List ℕ) → AllPairs (λ a b. a < b) xs → AllPairs (λ a b. a < b) ys → ((k : ℕ) → Contains xs k → Contains ys k)
+    → ((k : ℕ) → Contains ys k → Contains xs k) → xs ≡ ys
 same_rising [] [] r s f g = refl
 same_rising [] (y ∷ ys) r s f g = absurd (nowhere y (g y (contains_here y ys)))
 same_rising (x ∷ xs) [] r s f g = absurd (nowhere x (f x (contains_here x xs)))
 same_rising (x ∷ xs) (y ∷ ys) r s f g =
-    let a : y ≤ x = ⊎_elim (λ (e : y ≡ x). omega arith) (λ (c : Contains ys x). let l = head_less y x ys s c in omega arith) (contains_cases y x ys (f x (contains_here x xs))) in
-    let b : x ≤ y = ⊎_elim (λ (e : x ≡ y). omega arith) (λ (c : Contains xs y). let l = head_less x y xs r c in omega arith) (contains_cases x y xs (g y (contains_here y ys))) in
+    let a : y ≤ x = ⊎_elim (λ (e : y ≡ x). omega arith) (λ (c : Contains ys x). let l = head_less y x ys s c in omega arith)
+    (contains_cases y x ys (f x (contains_here x xs))) in
+    let b : x ≤ y = ⊎_elim (λ (e : x ≡ y). omega arith) (λ (c : Contains xs y). let l = head_less x y xs r c in omega arith)
+    (contains_cases x y xs (g y (contains_here y ys))) in
     let e : x ≡ y = omega arith in
     let t = same_rising xs ys (pairs_tail x xs r) (pairs_tail y ys s)
-    (λ k c. ⊎_elim (λ (i : y ≡ k). absurd (let l = head_less x k xs r c in omega arith)) (λ (d : Contains ys k). d) (contains_cases y k ys (f k (contains_there x k xs c))))
-    (λ k c. ⊎_elim (λ (i : x ≡ k). absurd (let l = head_less y k ys s c in omega arith)) (λ (d : Contains xs k). d) (contains_cases x k xs (g k (contains_there y k ys c)))) in
+    (λ k c. ⊎_elim (λ (i : y ≡ k). absurd (let l = head_less x k xs r c in omega arith)) (λ (d : Contains ys k). d)
+    (contains_cases y k ys (f k (contains_there x k xs c))))
+    (λ k c. ⊎_elim (λ (i : x ≡ k). absurd (let l = head_less y k ys s c in omega arith)) (λ (d : Contains xs k). d)
+    (contains_cases x k xs (g k (contains_there y k ys c)))) in
     cc
 
 -- a number that is in a rising list, and that none of it is below, is its first
@@ -67,7 +73,8 @@ taken_there (suc n) (x ∷ xs) = taken_there n xs
 slice_taken : {X : Type 0} (n : ℕ) (xs : List X) → slice_get (take (n + 1) xs) n ≡ slice_get xs n
 slice_taken n xs = rw add-one (taken_there n xs)
 
-take_same : {X : Type 0} (n : ℕ) (xs ys : List X) → take n xs ≡ take n ys → slice_get xs n ≡ slice_get ys n → n < length xs → n < length ys → take (n + 1) xs ≡ take (n + 1) ys
+take_same : {X : Type 0} (n : ℕ) (xs ys : List X) → take n xs ≡ take n ys → slice_get xs n ≡ slice_get ys n → n < length xs → n < length ys
+    → take (n + 1) xs ≡ take (n + 1) ys
 take_same n xs ys e s l m = ⊎_elim
     (λ c. let x = c.0 in
     take_more xs n x l ∙ ap (λ zs. zs ++ get_or xs n x ∷ []) e
@@ -175,10 +182,12 @@ module _ {S C : Type 0} (T : Trial S C) (same : IsSameTest T.meanings) where
   split_there s i =
       let m = i.mutant in let n = s.0 in
       let self : AreTogether T m m n = (let g = i.goes_on in record { reached = omega arith; other_reached = omega arith; equal = refl }) in
-      let r = least_passing (λ j. together T j m n) (suc m) (any_from (λ j. together T j m n) (below (suc m)) m (has_below (suc m) m (omega arith)) (together_from T same m m n self)) in
+      let r = least_passing (λ j. together T j m n) (suc m) (any_from (λ j. together T j m n) (below (suc m)) m (has_below (suc m) m (omega arith))
+      (together_from T same m m n self)) in
       let k = r.0 in let t = AreTogether-from T same k m n r.2 in
       let g = both_go_on T same m k n (turned k m n t) i.goes_on in
-      let e : least_members T k n ≡ s.1 = same_rising (least_members T k n) s.1 (AllPairs-from_increasing _ (leaders_rise k n)) (AllPairs-from_increasing _ i.rising)
+      let e : least_members T k n ≡ s.1 = same_rising (least_members T k n) s.1 (AllPairs-from_increasing _ (leaders_rise k n))
+      (AllPairs-from_increasing _ i.rising)
       (λ x c. (i.leaders x).1 (leads_moved k m n x t ((leaders_are k n g x).0 c)))
       (λ x c. (leaders_are k n g x).1 (leads_moved m k n x (turned k m n t) ((i.leaders x).0 c))) in
       let d : 1 < length (least_members T k n) = (let a = ap (λ xs. length xs) e in let b = i.divided in omega arith) in

@@ -1,5 +1,6 @@
 -- Counts and tests over 0, 1, .., n - 1.
-use Rattle.std.proofs.Common.{◌∙◌, ◌+◌, ◌≡◌, ℕ, zero, suc, ◌≤◌, ◌<◌, Bool, true, false, ◌&&◌, ◌||◌, not, cond, List, [], ◌∷◌, nat_lt, refl, sym, ap, arith, ⊎_elim, length-append, get_or, length}
+use Rattle.std.proofs.Common.{◌∙◌, ◌+◌, ◌≡◌, ℕ, zero, suc, ◌≤◌, ◌<◌, Bool, true, false, ◌&&◌, ◌||◌, not, cond, List, [], ◌∷◌, nat_lt, refl, sym, ap, arith}
+use Rattle.std.proofs.Common.{⊎_elim, length-append, get_or, length}
 use Rattle.std.specs.List.{list_any, count_by, sum_by, Contains}
 use Rattle.std.proofs.lemmas.Bool.{true≢false, or_parts, lt-ltb, le-ltb, cases_lt}
 use Rattle.std.proofs.lemmas.List.Sums.{sum_by_push, sum_by-cons}
@@ -12,7 +13,8 @@ use Rattle.traces.proofs.Bools.{step_one, or_false}
 
 pub sum_below : (f g : ℕ → ℕ) (n : ℕ) → ((k : ℕ) → k < n → f k ≡ g k) → sum_by f (below n) ≡ sum_by g (below n)
 sum_below f g zero h = refl
-sum_below f g (suc n) h = rw (sum_by_push f (below n) n, sum_by_push g (below n) n) (let a = sum_below f g n (λ k l. h k (omega arith)) in let b = h n (omega arith) in omega arith)
+sum_below f g (suc n) h = rw (sum_by_push f (below n) n, sum_by_push g (below n) n) (let a = sum_below f g n (λ k l. h k (omega arith)) in let b =
+    h n (omega arith) in omega arith)
 
 pub count_below : (p q : ℕ → Bool) (n : ℕ) → ((k : ℕ) → k < n → p k ≡ q k) → count_by p (below n) ≡ count_by q (below n)
 count_below p q n h = sum_below (λ k. cond (p k) 1 0) (λ k. cond (q k) 1 0) n (λ k l. ap (λ b. cond b 1 0) (h k l))
@@ -39,7 +41,8 @@ none_up_to r y b h = rw (le-ltb b y h)
 pub any_up_to : (r : ℕ → Bool) (y n : ℕ) → y ≤ n → list_any (λ k. nat_lt k y && r k) (below n) ≡ list_any r (below y)
 any_up_to r y zero h = let e : y ≡ 0 = omega arith in rw e
 any_up_to r y (suc n) h = ⊎_elim
-    (λ l. rw (list_any-append (λ k. nat_lt k y && r k) (below n) (n ∷ []), none_up_to r y n (omega arith), any_up_to r y n (omega arith)) (or_false (list_any r (below y))))
+    (λ l. rw (list_any-append (λ k. nat_lt k y && r k) (below n) (n ∷ []), none_up_to r y n (omega arith), any_up_to r y n (omega arith))
+    (or_false (list_any r (below y))))
     (λ g. let e : y ≡ suc n = omega arith in rw e (any_below (λ k. nat_lt k (suc n) && r k) r (suc n) (λ k l. rw (lt-ltb k (suc n) l))))
     (cases_lt y (suc n))
 
@@ -51,7 +54,8 @@ count_none q r (x ∷ xs) h = let p = or_parts (q x) (list_any q xs) h in
 pub one_least : (q : ℕ → Bool) (n : ℕ) → list_any q (below n) ≡ true → count_by (λ y. q y && not (list_any q (below y))) (below n) ≡ 1
 one_least q zero h = absurd (true≢false (sym h))
 one_least q (suc n) h = rw (sum_by_push (λ y. cond (q y && not (list_any q (below y))) 1 0) (below n) n)
-    (step_one (list_any q (below n)) (q n) (count_by (λ y. q y && not (list_any q (below y))) (below n)) (one_least q n) (count_none q (λ y. not (list_any q (below y))) (below n)) (rw (list_any-append q (below n) (n ∷ [])) at h))
+    (step_one (list_any q (below n)) (q n) (count_by (λ y. q y && not (list_any q (below y))) (below n)) (one_least q n)
+    (count_none q (λ y. not (list_any q (below y))) (below n)) (rw (list_any-append q (below n) (n ∷ [])) at h))
 
 pub length-below : (n : ℕ) → length (below n) ≡ n
 length-below zero = refl

@@ -33,7 +33,8 @@ module _ {S C : Type 0} (T : Trial S C) where
   still_reached : {X : Type 0} (n b : ℕ) (xs : List X) → n ≤ b → nat_le n (length (take b xs)) ≡ nat_le n (length xs)
   still_reached n b xs h = let l = length-take b xs in grind (arith, nat_tests)
 
-  together_taken : (b n : ℕ) (xs ys : List C) → n ≤ b → (nat_le n (length (take b xs)) && (nat_le n (length (take b ys)) && pointwise T.meanings.same (take n (take b xs)) (take n (take b ys))))
+  together_taken : (b n : ℕ) (xs ys : List C) → n ≤ b
+      → (nat_le n (length (take b xs)) && (nat_le n (length (take b ys)) && pointwise T.meanings.same (take n (take b xs)) (take n (take b ys))))
       ≡ (nat_le n (length xs) && (nat_le n (length ys) && pointwise T.meanings.same (take n xs) (take n ys)))
   together_taken b n xs ys h =
       rw (still_reached n b xs h) (rw (still_reached n b ys h) (rw (take-take n b xs h) (rw (take-take n b ys h) refl)))

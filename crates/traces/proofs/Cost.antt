@@ -1,5 +1,6 @@
 -- A turn costs what the next changes of its members cost, and once no execution is live all is paid.
-use Rattle.std.proofs.Common.{◌≡◌, ℕ, zero, suc, ◌+◌, ◌≤◌, ◌<◌, true, false, not, List, [], ◌∷◌, ◌++◌, length, map, refl, sym, ap, ◌∙◌, arith, subst, ⊎_elim, add-one, take, drop, slice_get, Some, if◌then◌else◌}
+use Rattle.std.proofs.Common.{◌≡◌, ℕ, zero, suc, ◌+◌, ◌≤◌, ◌<◌, true, false, not, List, [], ◌∷◌, ◌++◌, length, map, refl, sym, ap, ◌∙◌, arith, subst, ⊎_elim}
+use Rattle.std.proofs.Common.{add-one, take, drop, slice_get, Some, if◌then◌else◌}
 use Rattle.std.specs.List.{filter, flat_map, remove, sum_by, All, Contains}
 use Rattle.std.proofs.lemmas.Bool.{cases_lt, false≢true, and_from, lt-ltb}
 use Rattle.std.proofs.lemmas.List.Sums.{sum_by-append, sum_by_push, sum_by-cons}
@@ -17,7 +18,8 @@ use Rattle.traces.proofs.Turns.{cut_members, split_at, at_index}
 
 pub sum_by-flat_map : {X Y : Type 0} (g : Y → ℕ) (h : X → List Y) (xs : List X) → sum_by g (flat_map h xs) ≡ sum_by (λ x. sum_by g (h x)) xs
 sum_by-flat_map g h [] = refl
-sum_by-flat_map g h (x ∷ xs) = sum_by-append g (h x) (flat_map h xs) ∙ ap (λ n. sum_by g (h x) + n) (sum_by-flat_map g h xs) ∙ sym (sum_by-cons (λ y. sum_by g (h y)) x xs)
+sum_by-flat_map g h (x ∷ xs) = sum_by-append g (h x) (flat_map h xs) ∙ ap (λ n. sum_by g (h x) + n) (sum_by-flat_map g h xs)
+    ∙ sym (sum_by-cons (λ y. sum_by g (h y)) x xs)
 
 pub sum_by-map : {X Y : Type 0} (g : Y → ℕ) (h : X → Y) (xs : List X) → sum_by g (map h xs) ≡ sum_by (λ x. g (h x)) xs
 sum_by-map g h [] = refl
@@ -29,11 +31,13 @@ sum_by-plus f g (x ∷ xs) = rw (sum_by-cons (λ y. f y + g y) x xs, sum_by-cons
 
 pub sum_by_where : {X : Type 0} (f g : X → ℕ) (xs : List X) → ((x : X) → Contains xs x → f x ≡ g x) → sum_by f xs ≡ sum_by g xs
 sum_by_where f g [] h = refl
-sum_by_where f g (x ∷ xs) h = rw (sum_by-cons f x xs, sum_by-cons g x xs) (let a = h x (contains_here x xs) in let i = sum_by_where f g xs (λ y c. h y (contains_there x y xs c)) in omega arith)
+sum_by_where f g (x ∷ xs) h = rw (sum_by-cons f x xs, sum_by-cons g x xs) (let a = h x (contains_here x xs) in let i =
+    sum_by_where f g xs (λ y c. h y (contains_there x y xs c)) in omega arith)
 
 sum_by_at_most : {X : Type 0} (f g : X → ℕ) (xs : List X) → ((x : X) → Contains xs x → f x ≤ g x) → sum_by f xs ≤ sum_by g xs
 sum_by_at_most f g [] h = omega arith
-sum_by_at_most f g (x ∷ xs) h = rw (sum_by-cons f x xs, sum_by-cons g x xs) (let a = h x (contains_here x xs) in let i = sum_by_at_most f g xs (λ y c. h y (contains_there x y xs c)) in omega arith)
+sum_by_at_most f g (x ∷ xs) h = rw (sum_by-cons f x xs, sum_by-cons g x xs) (let a = h x (contains_here x xs) in let i =
+    sum_by_at_most f g xs (λ y c. h y (contains_there x y xs c)) in omega arith)
 
 sum_below_at_most : (f : ℕ → ℕ) (n k : ℕ) → n ≤ k → sum_by f (below n) ≤ sum_by f (below k)
 sum_below_at_most f n zero h = let e : n ≡ 0 = omega arith in rw e (omega arith)
@@ -47,7 +51,8 @@ module _ {S C : Type 0} (T : Trial S C) (same : IsSameTest T.meanings) (f : ℕ 
   unfolding cost_so_far
   cost_so_far-append es gs = sum_by-append _ es gs
 
-  pub cost_so_far-cons : (e : Execution S) (es : List (Execution S)) → cost_so_far f (e ∷ es) ≡ sum_by (λ m. sum_by (f m) (below e.step)) e.members + cost_so_far f es
+  pub cost_so_far-cons : (e : Execution S) (es : List (Execution S)) → cost_so_far f (e ∷ es) ≡ sum_by
+      (λ m. sum_by (f m) (below e.step)) e.members + cost_so_far f es
   unfolding cost_so_far
   cost_so_far-cons e es = sum_by-cons _ e es
 
@@ -64,7 +69,13 @@ module _ {S C : Type 0} (T : Trial S C) (same : IsSameTest T.meanings) (f : ℕ 
 
     pub spent_turn : (fore aft : List (Execution S)) → cost_so_far f ((fore ++ aft) ++ parts T e) ≡ cost_so_far f (fore ++ e ∷ aft) + cost_of_turn f e
     spent_turn fore aft =
-        rw (cost_so_far-append (fore ++ aft) (parts T e), cost_so_far-append fore aft, cost_so_far-append fore (e ∷ aft), cost_so_far-cons e aft, cost_so_far-parts) (omega arith)
+        rw (
+          cost_so_far-append (fore ++ aft) (parts T e),
+          cost_so_far-append fore aft,
+          cost_so_far-append fore (e ∷ aft),
+          cost_so_far-cons e aft,
+          cost_so_far-parts,
+        ) (omega arith)
 
   -- an execution that is not live has made all the changes of its members
   pub step_is : (e : Execution S) → IsExecution T e → is_live T e ≡ false → (m : ℕ) → Contains e.members m → e.step ≡ length (trace T m)

@@ -43,14 +43,20 @@ module _ {S C : Type 0} (T : Trial S C) (same : IsSameTest T.meanings) where
   together_at_the_end m k = same_bools _ _
       (λ h. from_equal m k (same_to_the_end m k (AreTogether-from T same m k _ h)))
       (λ h. let e = equal_traces m k h in together_from T same m k (length (trace T m))
-      (record { reached = omega arith; other_reached = subst (λ cs. length (trace T m) ≤ length cs) e (omega arith); equal = ap (take (length (trace T m))) e }))
+      (record {
+        reached = omega arith;
+        other_reached = subst (λ cs. length (trace T m) ≤ length cs) e (omega arith);
+        equal =
+            ap (take (length (trace T m))) e;
+      }))
 
   module _ (e : Execution S) (is : IsExecution T e) (over : is_live T e ≡ false) where
     -- the members of an execution that isn't live are the mutants with one trace
     pub ended_members : (m : ℕ) → Contains e.members m → e.members ≡ filter (same_trace m) (below T.mutants)
     unfolding class_of
     ended_members m c =
-        is.class m c ∙ ap (class_of T m) (step_is T same (λ a b. 0) e is over m c) ∙ filter_agree (λ k. together T m k (length (trace T m))) (same_trace m) (together_at_the_end m) (below T.mutants)
+        is.class m c ∙ ap (class_of T m) (step_is T same (λ a b. 0) e is over m c)
+        ∙ filter_agree (λ k. together T m k (length (trace T m))) (same_trace m) (together_at_the_end m) (below T.mutants)
 
     -- and its state is the one that they end in
     pub ended_state : (m : ℕ) → Contains e.members m → e.state ≡ state_at T m (length (trace T m))
@@ -72,7 +78,8 @@ module _ {S C : Type 0} (T : Trial S C) (same : IsSameTest T.meanings) where
       (λ t. ap (λ b. same_trace m y && not b) (any_below (λ k. same_trace k y) (same_trace m) y
       (λ k j. same_trace_sym k y ∙ ap (λ cs. pointwise T.meanings.same cs (trace T k)) (sym (equal_traces m y t)))))
       (λ n. rw n refl))
-      ∙ one_least (same_trace m) T.mutants (any_from (same_trace m) (below T.mutants) m (from_filter (same_trace m) (below T.mutants) m (subst (λ ms. Contains ms m) (ended_members e is over m f.1) f.1)).0 (from_equal m m refl))
+      ∙ one_least (same_trace m) T.mutants (any_from (same_trace m) (below T.mutants) m
+      (from_filter (same_trace m) (below T.mutants) m (subst (λ ms. Contains ms m) (ended_members e is over m f.1) f.1)).0 (from_equal m m refl))
 
   count_ones : (es : List (Execution S)) → sum_by (λ e. 1) es ≡ length es
   count_ones [] = refl

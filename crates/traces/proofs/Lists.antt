@@ -1,12 +1,14 @@
 -- What a filter contains, and lists cut into parts by tests.
-use Rattle.std.proofs.Common.{◌≡◌, ℕ, zero, suc, ◌+◌, ◌<◌, Bool, true, false, ◌&&◌, ◌||◌, cond, List, [], ◌∷◌, ◌++◌, length, refl, sym, ap, ◌∙◌, arith, ⊎_elim, subst, inl, inr, ◌⊎◌}
+use Rattle.std.proofs.Common.{◌≡◌, ℕ, zero, suc, ◌+◌, ◌<◌, Bool, true, false, ◌&&◌, ◌||◌, cond, List, [], ◌∷◌, ◌++◌, length, refl, sym, ap, ◌∙◌, arith, ⊎_elim}
+use Rattle.std.proofs.Common.{subst, inl, inr, ◌⊎◌}
 use Rattle.std.specs.List.{filter, flat_map, list_any, count_by, sum_by, All, Contains}
 use Rattle.std.specs.List.Sorted.{IsPermutation}
 use Rattle.std.proofs.lemmas.Bool.{cases_Bool}
 use Rattle.traces.proofs.Bools.{on_bool}
 use Rattle.std.proofs.lemmas.List.Elements.{All-contains, All-contains_itself, All-filter, filter_passes}
 use Rattle.std.proofs.lemmas.List.Sums.{sum_by-cons}
-use Rattle.std.proofs.lemmas.List.Sorted.{IsPermutation-refl, IsPermutation-sym, IsPermutation-trans, IsPermutation-cons, IsPermutation-append_right, IsPermutation-middle}
+use Rattle.std.proofs.lemmas.List.Sorted.{IsPermutation-refl, IsPermutation-sym, IsPermutation-trans, IsPermutation-cons, IsPermutation-append_right}
+use Rattle.std.proofs.lemmas.List.Sorted.{IsPermutation-middle}
 
 module _ {X : Type 0} where
   pub contains_here : (x : X) (xs : List X) → Contains (x ∷ xs) x
@@ -95,7 +97,8 @@ module _ {X : Type 0} where
         (λ t. let k : 1 + count_by (λ z. E z x) ys ≡ 1 = (sym (count_yes (λ z. E z x) y ys t) ∙ h) in
         let z : count_by (λ z. E z x) ys ≡ 0 = omega arith in
         let i : cut ys (x ∷ xs) ≡ cut ys xs = none_cut x xs ys z in
-        rw (filter_yes (E y) x xs t) (subst (λ zs. IsPermutation (x ∷ (filter (E y) xs ++ cut ys xs)) ((x ∷ filter (E y) xs) ++ zs)) (sym i) (IsPermutation-refl (x ∷ (filter (E y) xs ++ cut ys xs)))))
+        rw (filter_yes (E y) x xs t) (subst (λ zs. IsPermutation (x ∷ (filter (E y) xs ++ cut ys xs)) ((x ∷ filter (E y) xs) ++ zs)) (sym i)
+        (IsPermutation-refl (x ∷ (filter (E y) xs ++ cut ys xs)))))
         (λ f. let k : count_by (λ z. E z x) ys ≡ 1 = (sym (count_no (λ z. E z x) y ys f) ∙ h) in
         rw (filter_no (E y) x xs f)
         (IsPermutation-trans (x ∷ (filter (E y) xs ++ cut ys xs)) (filter (E y) xs ++ x ∷ cut ys xs) (filter (E y) xs ++ cut ys (x ∷ xs))

@@ -4,7 +4,8 @@ use Rattle.std.specs.List.{count_by, sum_by, flat_map, Contains, remove}
 use Rattle.std.specs.List.Sorted.{IsPermutation}
 use Rattle.std.proofs.lemmas.Bool.{eq-eqb, eqb-true}
 use Rattle.std.proofs.lemmas.List.Sums.{sum_by-append}
-use Rattle.std.proofs.lemmas.List.Sorted.{IsPermutation-refl, IsPermutation-sym, IsPermutation-trans, IsPermutation-cons, IsPermutation-remove, sum_by-IsPermutation}
+use Rattle.std.proofs.lemmas.List.Sorted.{IsPermutation-refl, IsPermutation-sym, IsPermutation-trans, IsPermutation-cons, IsPermutation-remove}
+use Rattle.std.proofs.lemmas.List.Sorted.{sum_by-IsPermutation}
 use Rattle.std.proofs.lemmas.List.Sorted.{All-permutation}
 use Rattle.traces.specs.Trace.{Trial}
 use Rattle.traces.specs.Together.{below}
@@ -37,7 +38,8 @@ module _ {X : Type 0} (same : X → X → Bool) (sound : (x y : X) → same x y 
       let b : 0 < count_by (same x) ys = (let c = h x in omega arith) in
       let t = counted_there x ys b in
       let p = IsPermutation-remove ys t.0 x t.1 (sym t.2) in
-      let e : (z : X) → count_by (same z) (x ∷ remove ys t.0) ≡ count_by (same z) ys = (λ z. sum_by-IsPermutation (λ y. cond (same z y) 1 0) ys (x ∷ remove ys t.0) p) in
+      let e : (z : X) → count_by (same z) (x ∷ remove ys t.0) ≡ count_by (same z) ys =
+      (λ z. sum_by-IsPermutation (λ y. cond (same z y) 1 0) ys (x ∷ remove ys t.0) p) in
       IsPermutation-trans (x ∷ xs) (x ∷ remove ys t.0) ys
       (IsPermutation-cons x xs (remove ys t.0) (same_counts xs (remove ys t.0) (λ z. same_tail z x xs (remove ys t.0) (h z ∙ sym (e z)))))
       (IsPermutation-sym ys (x ∷ remove ys t.0) p)

@@ -1,5 +1,6 @@
 -- Parts by class numbers are parts by equal changes, where a class number is the place of the first equal change.
-use Rattle.std.proofs.Common.{one-add, ◌≡◌, ℕ, suc, ◌<◌, Bool, true, false, ◌&&◌, not, ◌==◌, nat_lt, List, [], ◌∷◌, map, get_or, refl, sym, ap, ◌∙◌, subst, arith, ⊎_elim}
+use Rattle.std.proofs.Common.{one-add, ◌≡◌, ℕ, suc, ◌<◌, Bool, true, false, ◌&&◌, not, ◌==◌, nat_lt, List, [], ◌∷◌, map, get_or, refl, sym, ap, ◌∙◌, subst}
+use Rattle.std.proofs.Common.{arith, ⊎_elim}
 use Rattle.std.specs.List.{filter, list_any, position_or_len, Contains}
 use Rattle.std.proofs.lemmas.Bool.{eqb-true, eq-eqb, true≢false}
 use Rattle.traces.proofs.Bools.{on_bool, same_bools}

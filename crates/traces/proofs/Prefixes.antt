@@ -1,5 +1,6 @@
 -- The number of steps is the number of the different nonempty prefixes of the traces.
-use Rattle.std.proofs.Common.{◌≡◌, ◌≢◌, ℕ, zero, suc, ◌+◌, ◌-◌, ◌<◌, Bool, true, false, not, if◌then◌else◌, List, [], ◌∷◌, ◌++◌, length, take, refl, sym, ap, ◌∙◌, subst, arith, ⊎_elim, append-nil}
+use Rattle.std.proofs.Common.{◌≡◌, ◌≢◌, ℕ, zero, suc, ◌+◌, ◌-◌, ◌<◌, Bool, true, false, not, if◌then◌else◌, List, [], ◌∷◌, ◌++◌, length, take, refl, sym, ap}
+use Rattle.std.proofs.Common.{◌∙◌, subst, arith, ⊎_elim, append-nil}
 use Rattle.std.specs.List.{AllPairs, Contains, flat_map, list_any, sum_by}
 use Rattle.std.proofs.lemmas.Bool.{true≢false, false≢true}
 use Rattle.std.proofs.lemmas.List.{length-take}
@@ -23,7 +24,8 @@ module _ {X : Type 0} (R : X → X → Type 0) where
   all_pairs_append [] ys a b c = b
   all_pairs_append (x ∷ xs) ys a b c =
       AllPairs-cons R x (xs ++ ys)
-      (All-append (R x) xs ys (λ k d l. a 0 (suc k) d (omega arith) (omega arith)) (All-weaker (Contains ys) (R x) (λ y h. c x y (contains_here x xs) h) ys (All-contains_itself ys)))
+      (All-append (R x) xs ys (λ k d l. a 0 (suc k) d (omega arith) (omega arith))
+      (All-weaker (Contains ys) (R x) (λ y h. c x y (contains_here x xs) h) ys (All-contains_itself ys)))
       (all_pairs_append xs ys (λ i j d h l. a (suc i) (suc j) d (omega arith) (omega arith)) b (λ u v h k. c u v (contains_there x u xs h) k))
 
   pub none_paired : AllPairs R []
@@ -114,7 +116,8 @@ module _ {S C : Type 0} (T : Trial S C) (same : IsSameTest T.meanings) where
   -- the prefixes of one mutant have different lengths
   different_lengths : (m j k : ℕ) → j < k → k < length (trace T m) → prefix_of m j ≡ prefix_of m k → ⊥
   different_lengths m j k h l e =
-      let a = length-prefix_of m j (omega arith) in let b = length-prefix_of m k l in let c : length (prefix_of m j) ≡ length (prefix_of m k) = ap length e in omega arith
+      let a = length-prefix_of m j (omega arith) in let b = length-prefix_of m k l in let c : length (prefix_of m j) ≡ length (prefix_of m k) = ap length e in
+      omega arith
 
   -- a prefix that a lower mutant has too isn't counted at this one
   pub not_least : (j k n : ℕ) → j < k → AreTogether T j k n → is_least T k n ≡ true → ⊥
@@ -155,8 +158,10 @@ module _ {S C : Type 0} (T : Trial S C) (same : IsSameTest T.meanings) where
   pub least_together : (m k n : ℕ) → AreTogether T k m n → list_any (λ j. together T j m n) (below k) ≡ false → is_least T k n ≡ true
   least_together m k n t h = ap not (any_below (λ j. together T j k n) (λ j. together T j m n) k
       (λ j l. same_bools _ _
-      (λ a. let b = AreTogether-from T same j k n a in together_from T same j m n (record { reached = b.reached; other_reached = t.other_reached; equal = b.equal ∙ t.equal }))
-      (λ a. let b = AreTogether-from T same j m n a in together_from T same j k n (record { reached = b.reached; other_reached = t.reached; equal = b.equal ∙ sym t.equal })))
+      (λ a. let b = AreTogether-from T same j k n a in together_from T same j m n
+      (record { reached = b.reached; other_reached = t.other_reached; equal = b.equal ∙ t.equal }))
+      (λ a. let b = AreTogether-from T same j m n a in together_from T same j k n
+      (record { reached = b.reached; other_reached = t.reached; equal = b.equal ∙ sym t.equal })))
       ∙ h)
 
   all_counted : (cs : List C) → IsNonemptyPrefix T cs → Contains prefixes cs

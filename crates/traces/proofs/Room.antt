@@ -47,4 +47,5 @@ module _ {S C : Type 0} (T : Trial S C) where
 
     pub asks_within : (port : ℕ) → total_cost T (asks_cost T port) ≤ T.mutants * (T.budget * 1)
     asks_within port = total_within (asks_cost T port) 1 (λ m n l k. chosen_within (is_first_try T m n) _ 1
-        (light.toll port (variant_at T m n) (state_at T m n) ((changes_from-AreChangesFrom T m T.budget T.start).live n k) (known m (T.meanings.place (state_at T m n)) l)))
+        (light.toll port (variant_at T m n) (state_at T m n) ((changes_from-AreChangesFrom T m T.budget T.start).live n k)
+        (known m (T.meanings.place (state_at T m n)) l)))

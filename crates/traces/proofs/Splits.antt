@@ -1,5 +1,6 @@
 -- The splits of an analysis are those that its turns make.
-use Rattle.std.proofs.Common.{one-mul, zero-mul, ◌*◌, ◌≡◌, ℕ, zero, suc, ◌+◌, ◌≤◌, ◌<◌, Bool, true, false, ◌&&◌, not, ◌==◌, nat_eq, nat_lt, cond, if◌then◌else◌, List, [], ◌∷◌, length, refl, sym, ap, ◌∙◌, arith, ⊎_elim}
+use Rattle.std.proofs.Common.{one-mul, zero-mul, ◌*◌, ◌≡◌, ℕ, zero, suc, ◌+◌, ◌≤◌, ◌<◌, Bool, true, false, ◌&&◌, not, ◌==◌, nat_eq, nat_lt, cond, if◌then◌else◌}
+use Rattle.std.proofs.Common.{List, [], ◌∷◌, length, refl, sym, ap, ◌∙◌, arith, ⊎_elim}
 use Rattle.std.specs.List.{filter, flat_map, list_any, count_by, sum_by, Contains}
 use Rattle.std.specs.Cmp.Lexicographic.{pointwise}
 use Rattle.traces.specs.Meanings.{IsSameTest}
@@ -62,15 +63,18 @@ module _ {S C : Type 0} (T : Trial S C) where
 module _ {S C : Type 0} (T : Trial S C) (same : IsSameTest T.meanings) where
   module _ (e : Execution S) (is : IsExecution T e) (live : is_live T e ≡ true) where
     pub leaders_are : (m : ℕ) → Contains e.members m → filter (is_leader T e) e.members ≡ least_members T m e.step
-    leaders_are m c = filter_where (is_leader T e) (λ k. is_least T k (e.step + 1)) e.members (leads_new T same e is live) ∙ ap (filter (λ k. is_least T k (e.step + 1))) (is.class m c)
+    leaders_are m c = filter_where (is_leader T e) (λ k. is_least T k (e.step + 1)) e.members (leads_new T same e is live)
+        ∙ ap (filter (λ k. is_least T k (e.step + 1))) (is.class m c)
 
     least_here : (m y : ℕ) → together T m y e.step ≡ true → is_least T y e.step ≡ not (list_any (λ k. together T m k e.step) (below y))
     least_here m y h =
         let t = AreTogether-from T same m y e.step h in
         ap not (any_below (λ k. together T k y e.step) (λ k. together T m k e.step) y
         (λ k l. same_bools _ _
-        (λ a. let b = AreTogether-from T same k y e.step a in together_from T same m k e.step (record { reached = t.reached; other_reached = b.reached; equal = t.equal ∙ sym b.equal }))
-        (λ a. let b = AreTogether-from T same m k e.step a in together_from T same k y e.step (record { reached = b.other_reached; other_reached = t.other_reached; equal = sym b.equal ∙ t.equal }))))
+        (λ a. let b = AreTogether-from T same k y e.step a in together_from T same m k e.step
+        (record { reached = t.reached; other_reached = b.reached; equal = t.equal ∙ sym b.equal }))
+        (λ a. let b = AreTogether-from T same m k e.step a in together_from T same k y e.step
+        (record { reached = b.other_reached; other_reached = t.other_reached; equal = sym b.equal ∙ t.equal }))))
 
     one_least_member : count_by (λ m. is_least T m e.step) e.members ≡ 1
     unfolding class_of
@@ -79,7 +83,8 @@ module _ {S C : Type 0} (T : Trial S C) (same : IsSameTest T.meanings) where
         let r = is.reached m f.1 in
         ap (count_by (λ k. is_least T k e.step)) (is.class m f.1)
         ∙ count_by-filter (λ k. is_least T k e.step) (λ k. together T m k e.step) (below T.mutants)
-        ∙ count_below (λ y. together T m y e.step && is_least T y e.step) (λ y. together T m y e.step && not (list_any (λ k. together T m k e.step) (below y))) T.mutants
+        ∙ count_below (λ y. together T m y e.step && is_least T y e.step)
+        (λ y. together T m y e.step && not (list_any (λ k. together T m k e.step) (below y))) T.mutants
         (λ y l. on_bool (together T m y e.step)
         (λ t. ap (λ b. together T m y e.step && b) (least_here m y t))
         (λ n. rw n refl))
@@ -98,9 +103,12 @@ module _ {S C : Type 0} (T : Trial S C) (same : IsSameTest T.meanings) where
     pub splits_cost : (x : ℕ × List ℕ) → cost_of_turn (split_cost T x) e ≡ count_by (same_split x) (split_of T e)
     splits_cost x =
         let leaders = filter (is_leader T e) e.members in
-        sum_by_where (λ m. split_cost T x m e.step) (λ m. count_by (same_split x) (if is_least T m e.step && nat_lt 1 (length leaders) then (e.step, leaders) ∷ [] else [])) e.members
-        (λ m c. ap (λ ls. count_by (same_split x) (if is_least T m e.step && (nat_lt e.step (length (trace T m)) && nat_lt 1 (length ls)) then (e.step, ls) ∷ [] else [])) (sym (leaders_are m c))
-        ∙ ap (λ b. count_by (same_split x) (if is_least T m e.step && (b && nat_lt 1 (length leaders)) then (e.step, leaders) ∷ [] else [])) (lt-ltb _ _ (goes_on_at T same e is live m c)))
+        sum_by_where (λ m. split_cost T x m e.step) (λ m. count_by (same_split x) (if is_least T m e.step && nat_lt 1 (length leaders) then (e.step, leaders)
+        ∷ [] else [])) e.members
+        (λ m c. ap (λ ls. count_by (same_split x) (if is_least T m e.step && (nat_lt e.step (length (trace T m)) && nat_lt 1 (length ls)) then (e.step, ls)
+        ∷ [] else [])) (sym (leaders_are m c))
+        ∙ ap (λ b. count_by (same_split x) (if is_least T m e.step && (b && nat_lt 1 (length leaders)) then (e.step, leaders) ∷ [] else []))
+        (lt-ltb _ _ (goes_on_at T same e is live m c)))
         ∙ count_where (nat_lt 1 (length leaders)) (e.step, leaders) x (λ m. is_least T m e.step) e.members one_least_member
 
 module _ {S C : Type 0} (T : Trial S C) where
@@ -125,5 +133,6 @@ same_split_complete : (x : ℕ × List ℕ) → same_split x x ≡ true
 same_split_complete x = and_from _ _ (eq-eqb x.0 x.0 refl) (lists_same nat_eq (λ k. eq-eqb k k refl) x.1)
 
 -- what was written at each turn is, but for the order, the splits, where each split was written as often as it has come to be
-pub splits_written : {S C : Type 0} (T : Trial S C) (log : List (ℕ × List ℕ)) → ((x : ℕ × List ℕ) → count_by (same_split x) log ≡ total_cost T (split_cost T x)) → IsPermutation log (splits T)
+pub splits_written : {S C : Type 0} (T : Trial S C) (log : List (ℕ × List ℕ)) → ((x : ℕ × List ℕ) → count_by (same_split x) log ≡ total_cost T (split_cost T x))
+    → IsPermutation log (splits T)
 splits_written T log h = same_counts same_split same_split_sound same_split_complete log (splits T) (λ x. h x ∙ splits_total T x)

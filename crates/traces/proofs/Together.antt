@@ -33,7 +33,8 @@ module _ {S C : Type 0} (T : Trial S C) (same : IsSameTest T.meanings) where
   pub AreTogether-from : (m k n : ℕ) → together T m k n ≡ true → AreTogether T m k n
   unfolding together
   AreTogether-from m k n h =
-      let p = and_parts (nat_le n (length (trace T m))) (nat_le n (length (trace T k)) && pointwise T.meanings.same (take n (trace T m)) (take n (trace T k))) h in
+      let p = and_parts (nat_le n (length (trace T m))) (nat_le n (length (trace T k)) && pointwise T.meanings.same (take n (trace T m)) (take n (trace T k))) h
+      in
       let q = and_parts (nat_le n (length (trace T k))) (pointwise T.meanings.same (take n (trace T m)) (take n (trace T k))) p.1 in
       record {
         reached = leb-true _ _ p.0;
@@ -58,9 +59,11 @@ module _ {S C : Type 0} (T : Trial S C) (same : IsSameTest T.meanings) where
       not_over T k n T.budget T.start t.other_reached g.room (subst (λ s. T.meanings.ended s ≡ false) (same_state m k n t) g.live)
 
   pub state_after : (m n : ℕ) → n < length (trace T m) → state_at T m (suc n) ≡ T.meanings.after (state_at T m n) (change_of T m (state_at T m n))
-  state_after m n h = rw ((goes_on T m n T.budget T.start h).more) (fold-append T.meanings.after T.start (take n (trace T m)) (change_of T m (state_at T m n) ∷ []))
+  state_after m n h = rw ((goes_on T m n T.budget T.start h).more) (fold-append T.meanings.after T.start (take n (trace T m)) (change_of T m (state_at T m n)
+      ∷ []))
 
-  pub together_more : (m k n : ℕ) → n < length (trace T m) → together T m k (suc n) ≡ (together T m k n && T.meanings.same (change_of T m (state_at T m n)) (change_of T k (state_at T m n)))
+  pub together_more : (m k n : ℕ) → n < length (trace T m) → together T m k (suc n) ≡
+      (together T m k n && T.meanings.same (change_of T m (state_at T m n)) (change_of T k (state_at T m n)))
   together_more m k n h = same_bools _ _
       (λ t. let u = AreTogether-from m k (suc n) t in
       let v : AreTogether T m k n = record {

@@ -11,7 +11,8 @@ module _ {S C : Type 0} (T : Trial S C) where
   ended_none m zero s e = refl
   ended_none m (suc b) s e = rw (e, changes_from)
 
-  pub live_more : (m b : ℕ) (s : S) → T.meanings.ended s ≡ false → changes_from T m (suc b) s ≡ change_of T m s ∷ changes_from T m b (T.meanings.after s (change_of T m s))
+  pub live_more : (m b : ℕ) (s : S) → T.meanings.ended s ≡ false → changes_from T m (suc b) s ≡ change_of T m s
+      ∷ changes_from T m b (T.meanings.after s (change_of T m s))
   unfolding changes_from
   live_more m b s e = rw (e, changes_from)
 
@@ -22,7 +23,8 @@ module _ {S C : Type 0} (T : Trial S C) where
   pub record GoesOn (m n b : ℕ) (s : S) : Type 0 where
     pub live : T.meanings.ended (fold T.meanings.after s (take n (changes_from T m b s))) ≡ false
     pub room : n < b
-    pub more : take (suc n) (changes_from T m b s) ≡ take n (changes_from T m b s) ++ change_of T m (fold T.meanings.after s (take n (changes_from T m b s))) ∷ []
+    pub more : take (suc n) (changes_from T m b s) ≡ take n (changes_from T m b s) ++ change_of T m (fold T.meanings.after s (take n (changes_from T m b s)))
+        ∷ []
 
   pub goes_on : (m n b : ℕ) (s : S) → n < length (changes_from T m b s) → GoesOn m n b s
   goes_on m n zero s h = absurd (let k : n < 0 = (rw none_left at h) in omega arith)
@@ -37,7 +39,8 @@ module _ {S C : Type 0} (T : Trial S C) where
       record { live = rw l g.live; room = (let r = g.room in omega arith); more = rw l (ap (λ xs. c ∷ xs) g.more) })
       (cases_Bool (T.meanings.ended s))
 
-  pub not_over : (m n b : ℕ) (s : S) → n ≤ length (changes_from T m b s) → n < b → T.meanings.ended (fold T.meanings.after s (take n (changes_from T m b s))) ≡ false → n < length (changes_from T m b s)
+  pub not_over : (m n b : ℕ) (s : S) → n ≤ length (changes_from T m b s) → n < b
+      → T.meanings.ended (fold T.meanings.after s (take n (changes_from T m b s))) ≡ false → n < length (changes_from T m b s)
   not_over m n zero s h r e = absurd (omega arith)
   not_over m zero (suc b) s h r e = rw (live_more m b s e) (omega arith)
   not_over m (suc n) (suc b) s h r e = ⊎_elim
@@ -68,7 +71,8 @@ module _ {S C : Type 0} (T : Trial S C) where
     more_live cs e a (suc n) h = a.live n (omega arith)
 
     more_made : (cs : List C) → AreChangesFrom T m b (T.meanings.after s (change_of T m s)) cs
-        → (n : ℕ) → n < length (change_of T m s ∷ cs) → slice_get (change_of T m s ∷ cs) n ≡ Some (change_of T m (state_after T s (take n (change_of T m s ∷ cs))))
+        → (n : ℕ) → n < length (change_of T m s ∷ cs) → slice_get (change_of T m s ∷ cs) n ≡ Some
+        (change_of T m (state_after T s (take n (change_of T m s ∷ cs))))
     more_made cs a zero h = refl
     more_made cs a (suc n) h = a.made n (omega arith)
 

@@ -1,5 +1,6 @@
 -- What one turn weighs, tries and asks, by the costs of the members' next changes.
-use Rattle.std.proofs.Common.{◌≡◌, ◌≢◌, ℕ, ◌+◌, ◌<◌, Bool, true, ◌&&◌, not, ◌==◌, nat_eq, nat_lt, cond, if◌then◌else◌, List, [], ◌∷◌, length, slice_get, Some, get_or, refl, sym, ap, ◌∙◌, subst, arith, zero-add}
+use Rattle.std.proofs.Common.{◌≡◌, ◌≢◌, ℕ, ◌+◌, ◌<◌, Bool, true, ◌&&◌, not, ◌==◌, nat_eq, nat_lt, cond, if◌then◌else◌, List, [], ◌∷◌, length, slice_get, Some}
+use Rattle.std.proofs.Common.{get_or, refl, sym, ap, ◌∙◌, subst, arith, zero-add}
 use Rattle.std.specs.List.{filter, list_any, sum_by, Contains, AllPairs, IsDistinct}
 use Rattle.std.specs.Option.{option_map_or}
 use Rattle.std.proofs.lemmas.List.Sums.{length-filter, sum_by-cons}
@@ -28,7 +29,8 @@ sum_by-filter p f [] = refl
 sum_by-filter p f (x ∷ xs) = let i = sum_by-filter p f xs in on_bool (p x)
     (λ t. ap (sum_by f) (filter_yes p x xs t) ∙ sum_by-cons f x (filter p xs) ∙ ap (λ n. f x + n) i
     ∙ ap (λ b. (if b then f x else 0) + sum_by (λ x. if p x then f x else 0) xs) (sym t) ∙ sym (sum_by-cons (λ x. if p x then f x else 0) x xs))
-    (λ t. ap (sum_by f) (filter_no p x xs t) ∙ i ∙ sym (sum_by-cons (λ x. if p x then f x else 0) x xs ∙ rw t (zero-add (sum_by (λ x. if p x then f x else 0) xs))))
+    (λ t. ap (sum_by f) (filter_no p x xs t) ∙ i ∙ sym (sum_by-cons (λ x. if p x then f x else 0) x xs
+    ∙ rw t (zero-add (sum_by (λ x. if p x then f x else 0) xs))))
 
 module _ {S C : Type 0} (T : Trial S C) (same : IsSameTest T.meanings) (e : Execution S) (is : IsExecution T e) (live : is_live T e ≡ true) where
   -- a test of the lower members is one of the lower mutants that are together with this one
@@ -61,7 +63,8 @@ module _ {S C : Type 0} (T : Trial S C) (same : IsSameTest T.meanings) (e : Exec
       ∙ ap (λ s. if is_first_try T m e.step then T.meanings.toll port (T.variant m (T.meanings.place s)) s else 0) (is.state m c))
 
   next_change : (m : ℕ) → Contains e.members m → slice_get (trace T m) e.step ≡ Some (change_of T m e.state)
-  next_change m c = (changes_from-AreChangesFrom T m T.budget T.start).made e.step (goes_on_at T same e is live m c) ∙ ap (λ s. Some (change_of T m s)) (sym (is.state m c))
+  next_change m c = (changes_from-AreChangesFrom T m T.budget T.start).made e.step (goes_on_at T same e is live m c)
+      ∙ ap (λ s. Some (change_of T m s)) (sym (is.state m c))
 
   pub weights_cost : sum_by (λ m. T.meanings.weight (change_of T m e.state)) (filter (is_leader T e) e.members) ≡ cost_of_turn (load_cost T) e
   weights_cost =

@@ -1,11 +1,13 @@
 -- Every turn keeps a configuration, so every run does.
-use Rattle.std.proofs.Common.{◌≡◌, ℕ, zero, suc, ◌≤◌, ◌<◌, Bool, true, false, ◌&&◌, not, nat_lt, List, [], ◌∷◌, ◌++◌, length, take, drop, slice_get, refl, sym, ap, ◌∙◌, arith, subst, add-one, append_assoc, append-nil, Option, Some, None}
+use Rattle.std.proofs.Common.{◌≡◌, ℕ, zero, suc, ◌≤◌, ◌<◌, Bool, true, false, ◌&&◌, not, nat_lt, List, [], ◌∷◌, ◌++◌, length, take, drop, slice_get, refl, sym}
+use Rattle.std.proofs.Common.{ap, ◌∙◌, arith, subst, add-one, append_assoc, append-nil, Option, Some, None}
 use Rattle.std.specs.List.{filter, list_any, count_by, flat_map, remove, All, Contains}
 use Rattle.std.specs.List.Sorted.{IsPermutation}
 use Rattle.std.proofs.lemmas.Bool.{and_parts, and_from, not-true, ltb-true}
 use Rattle.std.proofs.lemmas.List.Folds.{flat_map-map, list_any_at}
 use Rattle.std.proofs.lemmas.List.Concat.{flat_map-append}
-use Rattle.std.proofs.lemmas.List.Elements.{filter_agree, All-map, All-filter, All-weaker, All-contains_itself, All-append, All-cons, All-nil, All-head, All-tail}
+use Rattle.std.proofs.lemmas.List.Elements.{filter_agree, All-map, All-filter, All-weaker, All-contains_itself, All-append, All-cons, All-nil, All-head}
+use Rattle.std.proofs.lemmas.List.Elements.{All-tail}
 use Rattle.std.proofs.lemmas.Option.{get_or_from_slice_get, slice_get_within}
 use Rattle.std.proofs.lemmas.List.Sorted.{IsPermutation-refl, IsPermutation-trans, IsPermutation-append_right, IsPermutation-append_comm}
 use Rattle.traces.specs.Meanings.{IsSameTest}
@@ -157,7 +159,8 @@ module _ {S C : Type 0} (T : Trial S C) (same : IsSameTest T.meanings) where
 
   all_at_zero : (m : ℕ) → below T.mutants ≡ class_of T m 0
   unfolding class_of
-  all_at_zero m = sym (filter_agree (λ k. together T m k 0) (λ k. true) (λ k. together_from T same m k 0 (record { reached = omega arith; other_reached = omega arith; equal = refl })) (below T.mutants)
+  all_at_zero m = sym (filter_agree (λ k. together T m k 0) (λ k. true)
+      (λ k. together_from T same m k 0 (record { reached = omega arith; other_reached = omega arith; equal = refl })) (below T.mutants)
       ∙ filter_whole (below T.mutants))
 
   pub opening_is : 0 < T.mutants → IsConfiguration T (opening T)

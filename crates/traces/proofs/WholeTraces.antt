@@ -35,11 +35,13 @@ module _ {S C : Type 0} (T : Trial S C) (same : IsSameTest T.meanings) where
       let are : (m : ℕ) → Contains e.members m → e.members ≡ filter (same_trace T same m) (below T.mutants) = ended_members T same e is over in
       record {
         some = is.some;
-        rising = subst IsStrictlyIncreasing (sym (are f.0 f.1)) (IsStrictlyIncreasing-filter (same_trace T same f.0) (below T.mutants) (IsStrictlyIncreasing-below T.mutants));
+        rising = subst IsStrictlyIncreasing (sym (are f.0 f.1)) (IsStrictlyIncreasing-filter (same_trace T same f.0) (below T.mutants)
+            (IsStrictlyIncreasing-below T.mutants));
         members = λ m k c. (
           λ d. let p = from_filter (same_trace T same m) (below T.mutants) k (subst (λ ms. Contains ms k) (are m c) d) in
               record { is_mutant = below_below T.mutants k p.0; equal = sym ((same_trace_is m k).0 p.1) },
-          λ h. subst (λ ms. Contains ms k) (sym (are m c)) (to_filter (same_trace T same m) (below T.mutants) k (has_below T.mutants k h.is_mutant) ((same_trace_is m k).1 (sym h.equal))),
+          λ h. subst (λ ms. Contains ms k) (sym (are m c)) (to_filter (same_trace T same m) (below T.mutants) k (has_below T.mutants k h.is_mutant)
+              ((same_trace_is m k).1 (sym h.equal))),
         );
         step = step_is T same (λ a b. 0) e is over;
         state = ended_state T same e is over;

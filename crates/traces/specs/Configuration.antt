@@ -12,7 +12,8 @@
 --     run es is          a turn at each of these places
 --     IsExecution        the members are exactly a class at the step, and the state is that of each of them there
 --     IsConfiguration    each mutant is a member of exactly one execution, and each is such an execution
-use Rattle.std.specs.Prelude.{◌≡◌, ℕ, ◌+◌, ◌≤◌, ◌<◌, Bool, ◌&&◌, not, nat_lt, ◌==◌, if◌then◌else◌, List, [], ◌∷◌, ◌++◌, length, map, slice_get, Option, Some, None}
+use Rattle.std.specs.Prelude.{◌≡◌, ℕ, ◌+◌, ◌≤◌, ◌<◌, Bool, ◌&&◌, not, nat_lt, ◌==◌, if◌then◌else◌, List, [], ◌∷◌, ◌++◌, length, map, slice_get, Option, Some}
+use Rattle.std.specs.Prelude.{None}
 use Rattle.std.specs.List.{filter, list_any, remove, flat_map, All, Contains}
 use Rattle.std.specs.List.Sorted.{IsPermutation}
 use Rattle.traces.specs.Trace.{Trial, change_of, trace, state_at}

@@ -13,11 +13,13 @@ loop-at-preserved g c =
       | then-beats w ↦ record {
         within = search rules;
         best = λ order acts o. let test = (acts x y _ _ (Called-at_two _ ((g.met.F.FnMut.1.post_iff _ _ _).0 c.beats.ensures).1 refl)).1 in
-            rw w.best-is (IsFirstBest-takes o _ _ _ x y (c.loop-at.invariant.best order acts o) (search rules) (search (rules, get_or_default)) (search (rules, get_or_default)) (sym test ∙ w.if-beats.true));
+            rw w.best-is (IsFirstBest-takes o _ _ _ x y (c.loop-at.invariant.best order acts o) (search rules) (search (rules, get_or_default))
+            (search (rules, get_or_default)) (sym test ∙ w.if-beats.true));
       }
       | else-beats w ↦ record {
         within = search rules;
         best = λ order acts o. let test = (acts x y _ _ (Called-at_two _ ((g.met.F.FnMut.1.post_iff _ _ _).0 c.beats.ensures).1 refl)).1 in
-            rw w.best-is (IsFirstBest-keeps o _ _ _ x y (c.loop-at.invariant.best order acts o) (search rules) (search (rules, get_or_default)) (search (rules, get_or_default)) (sym test ∙ w.if-beats.false));
+            rw w.best-is (IsFirstBest-keeps o _ _ _ x y (c.loop-at.invariant.best order acts o) (search rules) (search (rules, get_or_default))
+            (search (rules, get_or_default)) (sym test ∙ w.if-beats.false));
       }
     ]

@@ -31,7 +31,8 @@ returns-clause-added c =
     let unchosen = subst (λ (t : Table). chosen_by t c.args.m ≡ None) (sym c.self.view_is) c.requires.unchosen in
     let l = subst (λ (t : Table). c.args.m < mutants_of t) (sym c.self.view_is) c.requires.defined in
     let read = rw c.as_slice.ensures at c.index-as_slice-at.is in
-    let is : c.index-as_slice-at.result ≡ instr_at c.args.code.now c.args.place.0 = read_or c.args.code.now.instrs c.args.place.0 c.index-as_slice-at.result _ c.requires.within read in
+    let is : c.index-as_slice-at.result ≡ instr_at c.args.code.now c.args.place.0 =
+    read_or c.args.code.now.instrs c.args.place.0 c.index-as_slice-at.result _ c.requires.within read in
     adds _ _ _ _ _ _ _ _ c.self.invariant c.in_ok-number.ensures.added unchosen l c.args.code.now c.args.self.now c.self.view_is is
 
 pub returns-clause-fits : goal.returns-clause-fits

@@ -17,4 +17,5 @@ returns c =
     let some : c.args.v ≢ 0 = λ e. grind (arith, nat_tests, e, c.if-v-eq0.false) in
     let is = c.as_slice-2.ensures.keys ∙ place_replacements c.self.inside.places.items c.args.place.0 c.args.v c.index.result.now some given c.index.ensures in
     let l : c.args.v ≤ length c.as_slice-2.result.now = rw is given in
-    rw (← c.self.view_is) (instr_by_number c.args.code.now c.self.inside.chosen.items c.self.inside.places.items c.args.place.0 c.args.v c.as_slice-2.result.now c.index-as_slice-v.result some is l c.index-as_slice-v.is)
+    rw (← c.self.view_is) (instr_by_number c.args.code.now c.self.inside.chosen.items c.self.inside.places.items c.args.place.0 c.args.v c.as_slice-2.result.now
+    c.index-as_slice-v.result some is l c.index-as_slice-v.is)

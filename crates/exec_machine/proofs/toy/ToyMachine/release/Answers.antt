@@ -16,12 +16,18 @@ invariant_of-self c = record {
 }
 
 pub returns-clause-out_numbers : goal.returns-clause-out_numbers
-returns-clause-out_numbers c = rw c.remove.ensures.items (removed _ c.args.self.now.out.items _ _ c.deref.ensures.value c.place_of-at.ensures.in_range c.place_of-at.ensures.found)
+returns-clause-out_numbers c =
+    rw c.remove.ensures.items (removed _ c.args.self.now.out.items _ _ c.deref.ensures.value c.place_of-at.ensures.in_range c.place_of-at.ensures.found)
 
 pub returns-clause-keeps : goal.returns-clause-keeps
 returns-clause-keeps c = record {
   meanings = refl;
   stays = refl;
-  out = λ t h ne. (contains_rest _ _ _ _ (rw c.remove.ensures.items (removed _ c.args.self.now.out.items _ _ c.deref.ensures.value c.place_of-at.ensures.in_range c.place_of-at.ensures.found)) h.0 (λ e. ne (0, lit< tt, sym e)), h.1);
+  out = λ t h ne. (
+    contains_rest _ _ _ _
+        (rw c.remove.ensures.items (removed _ c.args.self.now.out.items _ _ c.deref.ensures.value c.place_of-at.ensures.in_range c.place_of-at.ensures.found)) h.0
+        (λ e. ne (0, lit< tt, sym e)),
+    h.1,
+  );
   stands = λ t h ne. refl;
 }
