@@ -28,15 +28,6 @@ is q p e = grind (arith, nat_tests)
 is_not : (q p : ℕ) → (q == p) ≡ false → q ≢ p
 is_not q p e = grind (arith, nat_tests)
 
-one_or_none : (b : Bool) → cond b 1 0 ≤ 1
-one_or_none true = omega arith
-one_or_none false = omega arith
-
--- no instruction asks a port twice
-pub toll_small : (p : ℕ) (s : State) (i : Instr) → toll_of p s i ≤ 1
-toll_small p s (Call callee args) = one_or_none (is_port p callee && is_some (values_of s args))
-toll_small p s _ = omega arith
-
 -- one count is one more, and the others are as they were
 one_more : (old : List ℕ) (p q : ℕ) (b : Bool) → (q == p) ≡ b → p < length old → get_or (set old p (get_or old p 0 + 1)) q 0 ≡ get_or old q 0 + cond (b && true) 1 0
 one_more old p q true e within =

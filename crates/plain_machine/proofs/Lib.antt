@@ -1,4 +1,3 @@
-pub mod Opening
 pub mod Steps
 pub mod Turns
 pub mod Numbers
@@ -6,6 +5,5 @@ pub mod Wrapped
 pub mod StoreSteps
 pub mod FoundSpots
 pub mod WriteSteps
-pub mod CountedWords
 pub mod EnterSteps
 pub mod Asked

@@ -1,8 +1,8 @@
 -- A step of a running state: what it asks of its operands and of where it goes, and what it keeps.
 use Rattle.std.proofs.Common.{◌≡◌, ℕ, ◌+◌, ◌*◌, ◌^◌, ◌<◌, ◌≤◌, List, [], ◌∷◌, length, map, Option, Some, None, Result, Ok, Err, Bool, true, false, cond, slice_get, arith, sym, ap, refl, subst, inl, inr}
-use Rattle.std.specs.Prelude.{◌==◌, nat_le, nat_lt, All}
+use Rattle.std.specs.Prelude.{◌==◌, nat_le, nat_lt, slice_index, All}
 use Rattle.std.proofs.lemmas.Bool.Decides.{nat_tests}
-use Rattle.std.proofs.lemmas.List.Elements.{All-weaker}
+use Rattle.std.proofs.lemmas.List.Elements.{All-weaker, All-nil, All-cons}
 use Rattle.std.proofs.lemmas.Option.{slice_get_within}
 use Rattle.am_base.specs.declared.word.Width.{Width}
 use Rattle.am_base.specs.declared.word.Cast.{Cast as Conversion}
@@ -31,7 +31,7 @@ use Rattle.machine_form.specs.declared.change.Change.{Change}
 use Rattle.machine_form.specs.declared.change.Control.TheVariants.{Next, Enter}
 use Rattle.machine_form.specs.declared.frame.Frame.{Frame}
 use Rattle.machine_form.specs.State.{State, frames_of, registers_in_use}
-use Rattle.machine_form.specs.Straight.{joined, value_of, values_of, with_value, write_of, end_change, trap_change, result_change, is_in_range, alloca_change}
+use Rattle.machine_form.specs.Straight.{joined, value_of, values_of, with_value, write_of, end_change, trap_change, result_change, is_in_range, alloca_change, differing, bytes_from}
 use Rattle.machine_form.specs.Edge.{phi_writes, block_now, jump_change, case_of}
 use Rattle.machine_form.specs.Calls.{Answers, numbered, enter_change, call_change, take_change, return_change, answer_change, width_of_sign}
 use Rattle.machine_form.specs.Next.{next_of}
@@ -41,7 +41,7 @@ use Rattle.machine_form.specs.Start.{start_of}
 use Rattle.machine_form.specs.SoundState.{IsSoundState}
 use Rattle.machine_form.proofs.Fits.{variant_fits, place_within, laid_function}
 use Rattle.machine_form.proofs.FoundPlaces.{some_at, function_found, block_found}
-use Rattle.machine_form.proofs.StraightShapes.{cond_has}
+use Rattle.machine_form.proofs.StraightShapes.{cond_has, length-bytes_from}
 use Rattle.machine_form.proofs.StartStates.{states_begin, function_at-is}
 use Rattle.machine_form.proofs.SoundStates.{operand_of_width}
 use Rattle.machine_form.proofs.SoundEdges.{branch_target, case_target}
@@ -185,8 +185,21 @@ no_port_steps code s Unreachable e h = h
 
 -- ---- where a step goes
 
-most : (n m : ℕ) → nat_lt m n ≡ false → n ≤ m
-most n m e = grind (arith, nat_tests)
+-- the bytes of a store lie below the end of the access
+differing_below : (bytes new : List ℕ) (at top : ℕ) → at + length new ≤ top → All (λ (b : ℕ × ℕ). b.0 < top) (differing bytes at new)
+differing_below bytes [] at top h = All-nil (λ (b : ℕ × ℕ). b.0 < top)
+differing_below bytes (n ∷ new) at top h = by (slice_index bytes at == n) (differing_below bytes new (at + 1) top (omega arith))
+  where
+    by : (t : Bool) → All (λ (b : ℕ × ℕ). b.0 < top) (differing bytes (at + 1) new)
+        → All (λ (b : ℕ × ℕ). b.0 < top) (cond t (differing bytes (at + 1) new) ((at, n) ∷ differing bytes (at + 1) new))
+    by true rest = rest
+    by false rest = All-cons (λ (b : ℕ × ℕ). b.0 < top) (at, n) (differing bytes (at + 1) new) (omega arith) rest
+
+stored_below : (bytes : List ℕ) (k x at top : ℕ) → at + k ≤ top → All (λ (b : ℕ × ℕ). b.0 < top) (differing bytes at (bytes_from k x))
+stored_below bytes k x at top h = differing_below bytes (bytes_from k x) at top (omega (arith, length-bytes_from k x))
+
+pub range_end : (s : State) (at k : ℕ) → is_in_range s at k ≡ true → at + k ≤ s.top
+range_end s at k e = grind (arith, nat_tests)
 
 module _ (code : Code) (s : State) (code_sound : IsSound code) (sound : IsSoundState code s) where
   abbrev Applies : Change → Type 0
@@ -196,8 +209,8 @@ module _ (code : Code) (s : State) (code_sound : IsSound code) (sound : IsSoundS
   place_next = let here = place_here code s code_sound sound in omega (arith, here, code_sound.few_instrs)
 
   -- a change that goes on at the next place
-  goes : (s.running.place + 1 < 2 ^ 32) × (s.position + 1 < 2 ^ 32)
-  goes = (place_next, omega (arith, sound.position, sound.input))
+  goes : (s.running.place + 1 < 2 ^ 32) × (s.position + 1 < 2 ^ 32) × All (λ (b : ℕ × ℕ). b.0 < s.top) []
+  goes = (place_next, omega (arith, sound.position, sound.input), All-nil (λ (b : ℕ × ℕ). b.0 < s.top))
 
   quiet_end : (e : Ending) → IsQuiet (end_change s e)
   quiet_end e = record { bytes = refl; put = refl; took = refl }
@@ -236,8 +249,7 @@ module _ (code : Code) (s : State) (code_sound : IsSound code) (sound : IsSoundS
       cond_has Applies (nat_lt 512 (frames_of s + 1)) (trap_change s DepthFull)
       (cond (nat_lt 32768 (registers_in_use s + (function_at code g).registers)) (trap_change s RegistersFull) entry) (λ _. quiet_end _)
       (λ _. cond_has Applies (nat_lt 32768 (registers_in_use s + (function_at code g).registers)) (trap_change s RegistersFull) entry (λ _. quiet_end _)
-      (λ few. let words = most (registers_in_use s + (function_at code g).registers) 32768 few in
-      (record { defined = slice_get_within code.funcs g f is; block = blocks; place = place_next; words = omega (arith, words) }, record { bytes = refl; put = refl; took = refl })))
+      (λ _. (record { defined = slice_get_within code.funcs g f is; block = blocks; place = place_next }, record { bytes = refl; put = refl; took = refl })))
 
   answer_applies : (r : Option ℕ) (w : Option Width) (o : Option ℕ) → Applies (answer_change s r w o)
   answer_applies r w None = quiet_end _
@@ -262,7 +274,8 @@ module _ (code : Code) (s : State) (code_sound : IsSound code) (sound : IsSoundS
   step_applies answers r (Load w a) f = value_applies (value_of s a) _ (λ x _. cond_has Applies (is_in_range s x (bytes_of w)) _ _ (λ _. goes) (λ _. quiet_end _))
   step_applies answers r (Store w a b) f =
       value_applies (value_of s a) _ (λ x _. value_applies (value_of s b) _ (λ y _. cond_has Applies (is_in_range s y (bytes_of w)) _ _
-      (λ _. cond_has Applies (nat_lt y code.const_end) _ _ (λ _. quiet_end _) (λ _. goes)) (λ _. quiet_end _)))
+      (λ within. cond_has Applies (nat_lt y code.const_end) _ _ (λ _. quiet_end _)
+      (λ _. (goes.0, goes.1, stored_below s.bytes (bytes_of w) x y s.top (range_end s y (bytes_of w) within)))) (λ _. quiet_end _)))
   step_applies answers r (Get a literal indices) f = value_applies (value_of s a) _ (λ x _. value_applies (values_of s (map (λ i. i.2) indices)) _ (λ xs _. goes))
   step_applies answers r (Phi entries) f = quiet_end _
   step_applies answers r (Call callee args) f = value_applies (values_of s args) _ (λ xs _. call_applies answers r callee args xs f)

@@ -11,10 +11,7 @@ use Rattle.machine_form.specs.declared.change.Control.TheVariants.{Jump as Go}
 use Rattle.machine_form.specs.State.{State}
 use Rattle.machine_form.specs.Straight.{with_value}
 use Rattle.machine_form.specs.Edge.{phi_writes, block_now, jump_change, case_of}
-use Rattle.plain_machine.specs.declared.spots.Spot.{Spot}
-use Rattle.plain_machine.specs.Spots.{AreSpots}
 use Rattle.plain_machine.specs.Operands.{CanGo}
-use Rattle.plain_machine.proofs.FoundSpots.{block_read}
 
 abbrev pub after_front : {X : Type 0} → List X → Option (List X) → Option (List X)
 after_front front None = None
@@ -34,18 +31,17 @@ case_goes code s (c ∷ cases) word other h all =
 abbrev pub go_with : State → ℕ → Option (List (ℕ × ℕ)) → Change
 go_with s b o = with_value s o (λ ws. record { writes = ws; bytes = []; top = s.top; put = None; took = false; control = Go b })
 
--- the writes that are read by the table of spots are those of the edge
-pub jumped : (code : Code) (spots : List Spot) (s : State) (b at : ℕ) (none : Spot) (block : Block) (is : List Instr) (rs : List (Option ℕ)) (o : Option (List (ℕ × ℕ))) → AreSpots code spots → at ≡ s.running.place
-    → at < length code.instrs → block ≡ block_of code at b → is ≡ code.instrs → rs ≡ code.results
-    → o ≡ phi_writes s (get_or spots at none).block (take (block.first + block.len - block.first) (drop block.first is)) (take (block.first + block.len - block.first) (drop block.first rs))
+-- the writes that are read from a block by its index are those of the edge
+pub jumped : (code : Code) (s : State) (b at from : ℕ) (block : Block) (is : List Instr) (rs : List (Option ℕ)) (o : Option (List (ℕ × ℕ))) → at ≡ s.running.place
+    → from ≡ unwrap_or (block_in (function_of code at).blocks at) 0 → block ≡ block_of code at b → is ≡ code.instrs → rs ≡ code.results
+    → o ≡ phi_writes s from (take (block.first + block.len - block.first) (drop block.first is)) (take (block.first + block.len - block.first) (drop block.first rs))
     → go_with s b o ≡ jump_change code s b
-jumped code spots s b at none block is rs o are place inside block_is instrs results e =
+jumped code s b at from block is rs o place here block_is instrs results e =
     let len : block.first + block.len - block.first ≡ block.len = omega arith in
-    let here : (get_or spots at none).block ≡ unwrap_or (block_in (function_of code at).blocks at) 0 = ap (λ o. unwrap_or o 0) (sym (block_read code spots are at inside none)) in
     let there : block ≡ block_of code s.running.place b = block_is ∙ ap (λ (n : ℕ). block_of code n b) place in
     ap (go_with s b)
-    (e ∙ ap (λ (n : ℕ). phi_writes s (get_or spots at none).block (take n (drop block.first is)) (take n (drop block.first rs))) len
-    ∙ ap (λ (js : List Instr). phi_writes s (get_or spots at none).block (take block.len (drop block.first js)) (take block.len (drop block.first rs))) instrs
-    ∙ ap (λ (qs : List (Option ℕ)). phi_writes s (get_or spots at none).block (instrs_of code block) (take block.len (drop block.first qs))) results
+    (e ∙ ap (λ (n : ℕ). phi_writes s from (take n (drop block.first is)) (take n (drop block.first rs))) len
+    ∙ ap (λ (js : List Instr). phi_writes s from (take block.len (drop block.first js)) (take block.len (drop block.first rs))) instrs
+    ∙ ap (λ (qs : List (Option ℕ)). phi_writes s from (instrs_of code block) (take block.len (drop block.first qs))) results
     ∙ ap (λ (n : ℕ). phi_writes s n (instrs_of code block) (results_of code block)) (here ∙ ap (λ (n : ℕ). unwrap_or (block_in (function_of code n).blocks n) 0) place)
     ∙ ap (λ (x : Block). phi_writes s (block_now code s) (instrs_of code x) (results_of code x)) there)

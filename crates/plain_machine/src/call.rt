@@ -6,22 +6,21 @@ ghost use Rattle.machine_form.specs.Calls as spec;
 ghost use Rattle.machine_form.specs.Calls.{numbered, enter_change, return_change};
 ghost use Rattle.machine_form.specs.Next.{ret_change};
 
-use crate::reads::function;
-use crate::state::FlatState;
 use crate::step::{ends, traps, write};
 use am_base::{Ending, OutOfMemory, Trap};
 use change_set::{ByteWrites, Change, Control, RegisterWrites};
 use code_form::{Code, Operand};
+use flat_state::{Flat, function};
 use std::alloc::Global;
 
 /// The words of the arguments, each for the register with its number, or nothing where one of them isn't set.
 fn argument_writes(
     alloc: Global,
-    s: &FlatState,
+    s: &Flat,
     args: &[Operand],
 ) -> Result<Option<RegisterWrites>, OutOfMemory>
     requires { length args.now < 2 ^ 32 }
-    ensures { IfOk result (λ ws. ws ≡ option_map (numbered 0) (values_of s.now args.now)) }
+    ensures { IfOk result (λ ws. ws ≡ option_map (numbered 0) (values_of s.now.state args.now)) }
 {
     let mut writes = RegisterWrites::new(alloc);
     for (i, a) in args.iter().enumerate() {
@@ -37,13 +36,13 @@ fn argument_writes(
 pub fn enter(
     alloc: Global,
     code: &Code,
-    s: &FlatState,
+    s: &Flat,
     f: u32,
     args: &[Operand],
 ) -> Result<Change, OutOfMemory>
     requires defined { f < length code.now.funcs }
     requires few { length args.now < 2 ^ 32 }
-    ensures { IfOk result (λ c. c ≡ with_value s.now (values_of s.now args.now) (λ xs. enter_change code.now s.now f xs)) }
+    ensures { IfOk result (λ c. c ≡ with_value s.now.state (values_of s.now.state args.now) (λ xs. enter_change code.now s.now.state f xs)) }
 {
     let Some(writes) = argument_writes(alloc, s, args)? else {
         return Ok(traps(alloc, s, Trap::UnsetRegister));
@@ -53,7 +52,7 @@ pub fn enter(
         return Ok(traps(alloc, s, Trap::DepthFull));
     }
     let registers = function(code, f).registers;
-    if u64::from(s.words()) + u64::from(registers) > 32768 {
+    if s.words() + u64::from(registers) > 32768 {
         return Ok(traps(alloc, s, Trap::RegistersFull));
     }
     Ok(Change {
@@ -81,8 +80,8 @@ fn write_back(
 }
 
 /// A return with a word or none.
-fn returns(alloc: Global, s: &FlatState, word: Option<u64>) -> Result<Change, OutOfMemory>
-    ensures { IfOk result (λ c. c ≡ return_change s.now s.now.callers word) }
+fn returns(alloc: Global, s: &Flat, word: Option<u64>) -> Result<Change, OutOfMemory>
+    ensures { IfOk result (λ c. c ≡ return_change s.now.state s.now.state.callers word) }
 {
     if s.callers() == 0 {
         return Ok(ends(alloc, s, Ending::Return(word)));
@@ -98,8 +97,8 @@ fn returns(alloc: Global, s: &FlatState, word: Option<u64>) -> Result<Change, Ou
 }
 
 /// `ret`: the value, where the function has one.
-pub fn ret(alloc: Global, s: &FlatState, a: Option<Operand>) -> Result<Change, OutOfMemory>
-    ensures { IfOk result (λ c. c ≡ ret_change s.now a) }
+pub fn ret(alloc: Global, s: &Flat, a: Option<Operand>) -> Result<Change, OutOfMemory>
+    ensures { IfOk result (λ c. c ≡ ret_change s.now.state a) }
 {
     let Some(a) = a else {
         return returns(alloc, s, None);

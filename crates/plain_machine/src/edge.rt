@@ -5,15 +5,14 @@ ghost use Rattle.machine_form.specs.After.{phis_in};
 ghost use Rattle.machine_form.specs.Edge as spec;
 ghost use Rattle.machine_form.specs.Edge.{entry_of, value_of_entry, jump_change, case_of};
 ghost use Rattle.machine_form.specs.Straight.{value_of, with_value};
-ghost use Rattle.plain_machine.specs.Spots.{AreSpots};
 ghost use Rattle.plain_machine.specs.Operands.{CanGo, CanGoFrom};
 
-use crate::spots::{Spot, block_here};
-use crate::state::FlatState;
+use crate::program::Program;
 use crate::step::traps;
 use am_base::{OutOfMemory, Trap};
 use change_set::{ByteWrites, Change, Control, RegisterWrites};
-use code_form::{Code, Instr, Operand};
+use code_form::{Instr, Operand};
+use flat_state::Flat;
 use std::alloc::Global;
 
 /// What a `phi` reads where the run comes from a block.
@@ -29,8 +28,8 @@ fn entry(entries: &[(u32, Operand)], from: usize) -> Option<Operand>
 }
 
 /// The word of a `phi` where the run comes from a block.
-fn entry_word(s: &FlatState, entries: &[(u32, Operand)], from: usize) -> Option<u64>
-    ensures { result ≡ value_of_entry s.now (entry_of entries.now from) }
+fn entry_word(s: &Flat, entries: &[(u32, Operand)], from: usize) -> Option<u64>
+    ensures { result ≡ value_of_entry s.now.state (entry_of entries.now from) }
 {
     match entry(entries, from) {
         Some(value) => s.value(value),
@@ -41,13 +40,13 @@ fn entry_word(s: &FlatState, entries: &[(u32, Operand)], from: usize) -> Option<
 /// The writes of the `phi` at the front of some instructions, all read before any is written, or nothing where one of them isn't set.
 fn phi_writes(
     alloc: Global,
-    s: &FlatState,
+    s: &Flat,
     from: usize,
     instrs: &[Instr],
     results: &[Option<u32>],
 ) -> Result<Option<RegisterWrites>, OutOfMemory>
     requires { length results.now ≡ length instrs.now }
-    ensures { IfOk result (λ ws. ws ≡ spec.phi_writes s.now from instrs.now results.now) }
+    ensures { IfOk result (λ ws. ws ≡ spec.phi_writes s.now.state from instrs.now results.now) }
 {
     let mut writes = RegisterWrites::new(alloc);
     for (i, instr) in instrs.iter().enumerate() {
@@ -66,22 +65,16 @@ fn phi_writes(
 }
 
 /// The run goes to a block of its function.
-pub fn jump(
-    alloc: Global,
-    code: &Code,
-    spots: &[Spot],
-    s: &FlatState,
-    b: u32,
-) -> Result<Change, OutOfMemory>
-    requires spots { AreSpots code.now spots.now }
-    requires go { CanGo code.now s.now b }
-    ensures { IfOk result (λ c. c ≡ jump_change code.now s.now b) }
+pub fn jump(alloc: Global, program: &Program, s: &Flat, b: u32) -> Result<Change, OutOfMemory>
+    requires { CanGo program.now s.now.state b }
+    ensures { IfOk result (λ c. c ≡ jump_change program.now s.now.state b) }
 {
+    let code = program.code();
     let place = s.place();
-    let block = block_here(code, spots, place, b);
+    let block = program.block(place, b);
     let first = block.first as usize;
     let end = first + block.len as usize;
-    let from = spots[place as usize].block;
+    let from = program.block_index(place);
     let instrs = &code.instrs.as_slice()[first..end];
     let results = &code.results.as_slice()[first..end];
     let Some(writes) = phi_writes(alloc, s, from, instrs, results)? else {
@@ -100,25 +93,23 @@ pub fn jump(
 /// `br` with a condition: the block where it is 1, and the block where it is 0.
 pub fn branch(
     alloc: Global,
-    code: &Code,
-    spots: &[Spot],
-    s: &FlatState,
+    program: &Program,
+    s: &Flat,
     c: Operand,
     b: u32,
     d: u32,
 ) -> Result<Change, OutOfMemory>
-    requires spots { AreSpots code.now spots.now }
-    requires one { CanGo code.now s.now b }
-    requires zero { CanGo code.now s.now d }
-    ensures { IfOk result (λ change. change ≡ with_value s.now (value_of s.now c) (λ k. jump_change code.now s.now (if (k == 1) then b else d))) }
+    requires one { CanGo program.now s.now.state b }
+    requires zero { CanGo program.now s.now.state d }
+    ensures { IfOk result (λ change. change ≡ with_value s.now.state (value_of s.now.state c) (λ k. jump_change program.now s.now.state (if (k == 1) then b else d))) }
 {
     let Some(k) = s.value(c) else {
         return Ok(traps(alloc, s, Trap::UnsetRegister));
     };
     if k == 1 {
-        jump(alloc, code, spots, s, b)
+        jump(alloc, program, s, b)
     } else {
-        jump(alloc, code, spots, s, d)
+        jump(alloc, program, s, d)
     }
 }
 
@@ -137,22 +128,20 @@ fn case_block(cases: &[(u64, u32)], word: u64, other: u32) -> u32
 /// `switch`: the value, the default block, and the cases with their blocks.
 pub fn switch(
     alloc: Global,
-    code: &Code,
-    spots: &[Spot],
-    s: &FlatState,
+    program: &Program,
+    s: &Flat,
     a: Operand,
     other: u32,
     cases: &[(u64, u32)],
 ) -> Result<Change, OutOfMemory>
-    requires spots { AreSpots code.now spots.now }
-    requires other { CanGo code.now s.now other }
-    requires cases { All (λ c. CanGo code.now s.now c.1) cases.now }
-    ensures { IfOk result (λ change. change ≡ with_value s.now (value_of s.now a) (λ x. jump_change code.now s.now (case_of cases.now x other))) }
+    requires other { CanGo program.now s.now.state other }
+    requires cases { All (λ c. CanGo program.now s.now.state c.1) cases.now }
+    ensures { IfOk result (λ change. change ≡ with_value s.now.state (value_of s.now.state a) (λ x. jump_change program.now s.now.state (case_of cases.now x other))) }
 {
     let Some(x) = s.value(a) else {
         return Ok(traps(alloc, s, Trap::UnsetRegister));
     };
-    jump(alloc, code, spots, s, case_block(cases, x, other))
+    jump(alloc, program, s, case_block(cases, x, other))
 }
 
 /// How many `phi` stand at the front of some instructions.
@@ -170,13 +159,12 @@ fn phis(instrs: &[Instr]) -> u32
 }
 
 /// Where a run stands that goes from a place to a block of its function: after the block's `phi`.
-pub fn entry_place(code: &Code, spots: &[Spot], place: u32, b: u32) -> u32
-    requires spots { AreSpots code.now spots.now }
-    requires go { CanGoFrom code.now place b }
-    ensures { result ≡ after.entry_place code.now place b }
+pub fn entry_place(program: &Program, place: u32, b: u32) -> u32
+    requires { CanGoFrom program.now place b }
+    ensures { result ≡ after.entry_place program.now place b }
 {
-    let block = block_here(code, spots, place, b);
+    let block = program.block(place, b);
     let first = block.first as usize;
     let end = first + block.len as usize;
-    block.first + phis(&code.instrs.as_slice()[first..end])
+    block.first + phis(&program.code().instrs.as_slice()[first..end])
 }

@@ -7,17 +7,17 @@ ghost use Rattle.machine_form.specs.Straight.{values_of, scaled_sum};
 ghost use Rattle.machine_form.specs.Next.{get_change};
 ghost use Rattle.plain_machine.specs.Operands.{HoldsWord};
 
-use crate::state::FlatState;
 use crate::step::{gives, traps};
 use am_base::{Cast, OutOfMemory, Trap, Width, convert};
 use change_set::Change;
 use code_form::Operand;
+use flat_state::Flat;
 use std::alloc::Global;
 
 /// The sum of the indices, each signed in its width and scaled, modulo 2^64, or nothing where one of them isn't set.
-fn scaled(s: &FlatState, indices: &[(u64, Width, Operand)]) -> Option<u64>
-    requires { All (λ i. HoldsWord s.now i.1 i.2) indices.now }
-    ensures { result ≡ option_map (λ xs. word_of W64 (scaled_sum indices.now xs)) (values_of s.now (map (λ i. i.2) indices.now)) }
+fn scaled(s: &Flat, indices: &[(u64, Width, Operand)]) -> Option<u64>
+    requires { All (λ i. HoldsWord s.now.state i.1 i.2) indices.now }
+    ensures { result ≡ option_map (λ xs. word_of W64 (scaled_sum indices.now xs)) (values_of s.now.state (map (λ i. i.2) indices.now)) }
 {
     match indices.split_first() {
         None => Some(0),
@@ -33,14 +33,14 @@ fn scaled(s: &FlatState, indices: &[(u64, Width, Operand)]) -> Option<u64>
 /// `getelementptr`: the base, the literal part of the offset, and the other indices with their scales in bytes and their widths.
 pub fn get(
     alloc: Global,
-    s: &FlatState,
+    s: &Flat,
     r: Option<u32>,
     a: Operand,
     literal: u64,
     indices: &[(u64, Width, Operand)],
 ) -> Result<Change, OutOfMemory>
-    requires { All (λ i. HoldsWord s.now i.1 i.2) indices.now }
-    ensures { IfOk result (λ c. c ≡ get_change s.now r a literal indices.now) }
+    requires { All (λ i. HoldsWord s.now.state i.1 i.2) indices.now }
+    ensures { IfOk result (λ c. c ≡ get_change s.now.state r a literal indices.now) }
 {
     let Some(base) = s.value(a) else {
         return Ok(traps(alloc, s, Trap::UnsetRegister));

@@ -1,18 +1,20 @@
-//! One mutant by itself, on a flat memory of 1,048,576 bytes.
+//! The evaluator over flat states, and one mutant by itself.
 #![tactic(auto)]
 
-mod apply;
 mod call;
 mod edge;
 mod get;
 mod memory;
 mod outside;
 mod port;
-mod reads;
+mod program;
 mod run;
 mod spots;
-mod start;
-mod state;
 mod step;
+mod tries;
+mod turn;
 
+pub use program::Program;
 pub use run::{Alone, run_alone};
+pub use tries::{try_variant, try_variants};
+pub use turn::apply;

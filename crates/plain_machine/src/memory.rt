@@ -5,11 +5,11 @@ ghost use Rattle.machine_form.specs.Straight as spec;
 ghost use Rattle.machine_form.specs.Straight.{number_of, bytes_from, value_of, with_value, load_change, store_change, alloca_change};
 ghost use Rattle.plain_machine.specs.Operands.{HasMemory, IsSmallAlignment};
 
-use crate::state::FlatState;
 use crate::step::{gives, traps, write};
 use am_base::{Cast, OutOfMemory, Trap, Width, convert};
 use change_set::{ByteWrites, Change, Control, RegisterWrites};
 use code_form::{Code, Operand};
+use flat_state::Flat;
 use std::alloc::Global;
 
 /// How many bytes an integer of a width takes.
@@ -39,9 +39,9 @@ fn number(bytes: &[u8]) -> u64
 }
 
 /// Whether all bytes of an access lie from 1,024 to below the stack top.
-fn is_in_range(s: &FlatState, address: u64, len: usize) -> bool
+fn is_in_range(s: &Flat, address: u64, len: usize) -> bool
     requires { len ≤ 8 }
-    ensures { result ≡ spec.is_in_range s.now address len }
+    ensures { result ≡ spec.is_in_range s.now.state address len }
 {
     let top = u64::from(s.top());
     address >= 1024 && address <= top && address + len as u64 <= top
@@ -75,13 +75,13 @@ fn differing(
 fn store_at(
     alloc: Global,
     code: &Code,
-    s: &FlatState,
+    s: &Flat,
     w: Width,
     word: u64,
     address: u64,
 ) -> Result<Change, OutOfMemory>
-    requires { HasMemory s.now }
-    ensures { IfOk result (λ c. c ≡ store_change code.now s.now w word address) }
+    requires { HasMemory s.now.state }
+    ensures { IfOk result (λ c. c ≡ store_change code.now s.now.state w word address) }
 {
     let len = bytes_of(w);
     if !is_in_range(s, address, len) {
@@ -90,7 +90,7 @@ fn store_at(
     if address < u64::from(code.const_end) {
         return Ok(traps(alloc, s, Trap::ConstantWrite));
     }
-    let bytes = differing(alloc, s.bytes(), address as usize, len, word)?;
+    let bytes = differing(alloc, s.kept(), address as usize, len, word)?;
     Ok(Change {
         writes: RegisterWrites::new(alloc),
         bytes,
@@ -105,13 +105,13 @@ fn store_at(
 pub fn store(
     alloc: Global,
     code: &Code,
-    s: &FlatState,
+    s: &Flat,
     w: Width,
     a: Operand,
     b: Operand,
 ) -> Result<Change, OutOfMemory>
-    requires { HasMemory s.now }
-    ensures { IfOk result (λ c. c ≡ with_value s.now (value_of s.now a) (λ x. with_value s.now (value_of s.now b) (λ address. store_change code.now s.now w x address))) }
+    requires { HasMemory s.now.state }
+    ensures { IfOk result (λ c. c ≡ with_value s.now.state (value_of s.now.state a) (λ x. with_value s.now.state (value_of s.now.state b) (λ address. store_change code.now s.now.state w x address))) }
 {
     let Some(x) = s.value(a) else {
         return Ok(traps(alloc, s, Trap::UnsetRegister));
@@ -125,33 +125,33 @@ pub fn store(
 /// A load from an address.
 fn load_at(
     alloc: Global,
-    s: &FlatState,
+    s: &Flat,
     r: Option<u32>,
     w: Width,
     address: u64,
 ) -> Result<Change, OutOfMemory>
-    requires { HasMemory s.now }
-    ensures { IfOk result (λ c. c ≡ load_change s.now r w address) }
+    requires { HasMemory s.now.state }
+    ensures { IfOk result (λ c. c ≡ load_change s.now.state r w address) }
 {
     let len = bytes_of(w);
     if !is_in_range(s, address, len) {
         return Ok(traps(alloc, s, Trap::AddressRange));
     }
     let at = address as usize;
-    let word = number(&s.bytes()[at..at + len]);
+    let word = number(&s.kept()[at..at + len]);
     gives(alloc, s, r, convert(Cast::Trunc, Width::W64, w, word))
 }
 
 /// `load`: the address.
 pub fn load(
     alloc: Global,
-    s: &FlatState,
+    s: &Flat,
     r: Option<u32>,
     w: Width,
     a: Operand,
 ) -> Result<Change, OutOfMemory>
-    requires { HasMemory s.now }
-    ensures { IfOk result (λ c. c ≡ with_value s.now (value_of s.now a) (λ address. load_change s.now r w address)) }
+    requires { HasMemory s.now.state }
+    ensures { IfOk result (λ c. c ≡ with_value s.now.state (value_of s.now.state a) (λ address. load_change s.now.state r w address)) }
 {
     let Some(address) = s.value(a) else {
         return Ok(traps(alloc, s, Trap::UnsetRegister));
@@ -162,15 +162,15 @@ pub fn load(
 /// That many values of a size on the stack.
 fn alloca_count(
     alloc: Global,
-    s: &FlatState,
+    s: &Flat,
     r: Option<u32>,
     size: u64,
     align: u64,
     count: u64,
 ) -> Result<Change, OutOfMemory>
-    requires memory { HasMemory s.now }
+    requires memory { HasMemory s.now.state }
     requires align { IsSmallAlignment align }
-    ensures { IfOk result (λ c. c ≡ alloca_change s.now r size align count) }
+    ensures { IfOk result (λ c. c ≡ alloca_change s.now.state r size align count) }
 {
     let top = u64::from(s.top());
     let address = top + (align - top % align) % align;
@@ -192,15 +192,15 @@ fn alloca_count(
 /// `alloca`: the size and the alignment in bytes, and the count, which is unsigned.
 pub fn alloca(
     alloc: Global,
-    s: &FlatState,
+    s: &Flat,
     r: Option<u32>,
     size: u64,
     align: u64,
     count: Operand,
 ) -> Result<Change, OutOfMemory>
-    requires memory { HasMemory s.now }
+    requires memory { HasMemory s.now.state }
     requires align { IsSmallAlignment align }
-    ensures { IfOk result (λ c. c ≡ with_value s.now (value_of s.now count) (λ n. alloca_change s.now r size align n)) }
+    ensures { IfOk result (λ c. c ≡ with_value s.now.state (value_of s.now.state count) (λ n. alloca_change s.now.state r size align n)) }
 {
     let Some(n) = s.value(count) else {
         return Ok(traps(alloc, s, Trap::UnsetRegister));

@@ -1,23 +1,24 @@
 //! Calls, and the four outside functions that every machine knows.
 ghost use Rattle.std.specs.Prelude.{◌≡◌, ◌<◌, ◌≤◌, [], ◌∷◌, length, IfOk};
 ghost use Rattle.machine_form.specs.Straight.{value_of, values_of, with_value, end_change};
-ghost use Rattle.machine_form.specs.Calls.{Answers, first_of, put_change, take_change, call_change};
+ghost use Rattle.am_base.specs.Word.{first_of};
+ghost use Rattle.machine_form.specs.Calls.{Answers, put_change, take_change, call_change};
 ghost use Rattle.machine_form.specs.Next.{next_of};
 ghost use Rattle.plain_machine.specs.Operands.{CanCall};
 ghost use Rattle.am_base.specs.declared.outcome.Ending.TheVariants.{Exit as Exited};
 ghost use Rattle.std.specs.Prelude.{slice_get};
 
 use crate::call::enter;
-use crate::state::FlatState;
 use crate::step::{ends, gives, traps, write};
 use am_base::{Ending, OutOfMemory, Trap};
 use change_set::{ByteWrites, Change, Control};
 use code_form::{Callee, Code, Operand};
+use flat_state::Flat;
 use std::alloc::Global;
 
 /// `putchar`: the lowest byte of its argument is put out, and is its word.
-fn put_char(alloc: Global, s: &FlatState, r: Option<u32>, a: Operand) -> Result<Change, OutOfMemory>
-    ensures { IfOk result (λ c. c ≡ with_value s.now (values_of s.now (a ∷ [])) (λ xs. put_change s.now r (first_of xs))) }
+fn put_char(alloc: Global, s: &Flat, r: Option<u32>, a: Operand) -> Result<Change, OutOfMemory>
+    ensures { IfOk result (λ c. c ≡ with_value s.now.state (values_of s.now.state (a ∷ [])) (λ xs. put_change s.now.state r (first_of xs))) }
 {
     let Some(x) = s.value(a) else {
         return Ok(traps(alloc, s, Trap::UnsetRegister));
@@ -37,8 +38,8 @@ fn put_char(alloc: Global, s: &FlatState, r: Option<u32>, a: Operand) -> Result<
 }
 
 /// `getchar`: the next byte of the input, or -1 at its end.
-fn get_char(alloc: Global, s: &FlatState, r: Option<u32>) -> Result<Change, OutOfMemory>
-    ensures { IfOk result (λ c. c ≡ take_change s.now r (slice_get s.now.input s.now.position)) }
+fn get_char(alloc: Global, s: &Flat, r: Option<u32>) -> Result<Change, OutOfMemory>
+    ensures { IfOk result (λ c. c ≡ take_change s.now.state r (slice_get s.now.state.input s.now.state.position)) }
 {
     let Some(byte) = s.next_input() else {
         return gives(alloc, s, r, 0xffff_ffff);
@@ -54,8 +55,8 @@ fn get_char(alloc: Global, s: &FlatState, r: Option<u32>) -> Result<Change, OutO
 }
 
 /// `exit`: the run ends with its argument.
-fn exit(alloc: Global, s: &FlatState, a: Operand) -> Change
-    ensures { result ≡ with_value s.now (values_of s.now (a ∷ [])) (λ xs. end_change s.now (Exited (first_of xs))) }
+fn exit(alloc: Global, s: &Flat, a: Operand) -> Change
+    ensures { result ≡ with_value s.now.state (values_of s.now.state (a ∷ [])) (λ xs. end_change s.now.state (Exited (first_of xs))) }
 {
     let Some(x) = s.value(a) else {
         return traps(alloc, s, Trap::UnsetRegister);
@@ -67,13 +68,13 @@ fn exit(alloc: Global, s: &FlatState, a: Operand) -> Change
 pub fn call(
     alloc: Global,
     code: &Code,
-    s: &FlatState,
+    s: &Flat,
     r: Option<u32>,
     callee: Callee,
     args: &[Operand],
 ) -> Result<Change, OutOfMemory>
     requires { CanCall code.now callee args.now }
-    ensures { (answers : Answers) → IfOk result (λ c. c ≡ with_value s.now (values_of s.now args.now) (λ xs. call_change code.now answers s.now r callee xs)) }
+    ensures { (answers : Answers) → IfOk result (λ c. c ≡ with_value s.now.state (values_of s.now.state args.now) (λ xs. call_change code.now answers s.now.state r callee xs)) }
 {
     match (callee, args) {
         (Callee::Func(f), _) => enter(alloc, code, s, f, args),

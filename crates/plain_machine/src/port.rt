@@ -7,26 +7,25 @@ ghost use Rattle.machine_form.specs.Calls.{answer_change, width_of_sign, call_ch
 ghost use Rattle.machine_form.specs.Next.{next_of};
 ghost use Rattle.machine_form.specs.Machine.{toll_of};
 ghost use Rattle.ports.specs.Asks.{answers_in, asked_in, AskedBy, AskedAtMostBy};
-ghost use Rattle.plain_machine.specs.Spots.{AreSpots};
 ghost use Rattle.plain_machine.specs.Operands.{CanAsk, CanChange, is_port_call};
 
-use crate::spots::Spot;
-use crate::state::FlatState;
+use crate::program::Program;
 use crate::step::{gives, step, traps};
 use am_base::{Cast, OutOfMemory, Trap, Width, convert};
 use am_lists::Items;
 use change_set::Change;
 use code_form::{Callee, Code, Instr, Operand};
+use flat_state::Flat;
 use ports::{Port, ask_port};
 use std::alloc::Global;
 
 /// The words of some operands, or nothing where one of them isn't set.
 fn argument_words(
     alloc: Global,
-    s: &FlatState,
+    s: &Flat,
     args: &[Operand],
 ) -> Result<Option<Items<u64>>, OutOfMemory>
-    ensures { IfOk result (λ words. words ≡ values_of s.now args.now) }
+    ensures { IfOk result (λ words. words ≡ values_of s.now.state args.now) }
 {
     let mut words = Items::new(alloc);
     for a in args {
@@ -51,12 +50,12 @@ fn port_width(code: &Code, p: u32) -> Option<Width>
 /// The change by what a port answered, whose result has this width.
 fn answered(
     alloc: Global,
-    s: &FlatState,
+    s: &Flat,
     r: Option<u32>,
     w: Option<Width>,
     answer: Option<u64>,
 ) -> Result<Change, OutOfMemory>
-    ensures { IfOk result (λ c. c ≡ answer_change s.now r w answer) }
+    ensures { IfOk result (λ c. c ≡ answer_change s.now.state r w answer) }
 {
     let Some(word) = answer else {
         return Ok(traps(alloc, s, Trap::PortRefused));
@@ -71,21 +70,21 @@ fn answered(
 fn ask(
     alloc: Global,
     code: &Code,
-    s: &FlatState,
+    s: &Flat,
     r: Option<u32>,
     p: u32,
     args: &[Operand],
     ports: &mut [Box<dyn Port>],
 ) -> Result<Change, OutOfMemory>
-    requires can { CanAsk code.now s.now p args.now }
+    requires can { CanAsk code.now s.now.state p args.now }
     requires signs { map (λ q. sign q) ports.old ≡ code.now.signs }
     requires few { asked_in (map (λ q. asked q) ports.old) p < 2 ^ 63 }
     ensures change { let answers = answers_in (map (λ q. answers q) ports.old) in
-        IfOk result (λ c. c ≡ with_value s.now (values_of s.now args.now) (λ xs. call_change code.now answers s.now r (AtPort p) xs)) }
+        IfOk result (λ c. c ≡ with_value s.now.state (values_of s.now.state args.now) (λ xs. call_change code.now answers s.now.state r (AtPort p) xs)) }
     ensures signs { map (λ q. sign q) ports.new ≡ map (λ q. sign q) ports.old }
     ensures answers { map (λ q. answers q) ports.new ≡ map (λ q. answers q) ports.old }
-    ensures asks { OnOk result (AskedBy (map (λ q. asked q) ports.old) (map (λ q. asked q) ports.new) (λ q. toll_of q s.now (CallOf (AtPort p) args.now))) }
-    ensures asks_at_most { AskedAtMostBy (map (λ q. asked q) ports.old) (map (λ q. asked q) ports.new) (λ q. toll_of q s.now (CallOf (AtPort p) args.now)) }
+    ensures asks { OnOk result (AskedBy (map (λ q. asked q) ports.old) (map (λ q. asked q) ports.new) (λ q. toll_of q s.now.state (CallOf (AtPort p) args.now))) }
+    ensures asks_at_most { AskedAtMostBy (map (λ q. asked q) ports.old) (map (λ q. asked q) ports.new) (λ q. toll_of q s.now.state (CallOf (AtPort p) args.now)) }
 {
     let Some(words) = argument_words(alloc, s, args)? else {
         return Ok(traps(alloc, s, Trap::UnsetRegister));
@@ -107,25 +106,23 @@ fn port_call(i: &Instr) -> Option<(u32, &[Operand])>
 /// The change that an instruction makes. `r` is the register of its place.
 pub fn change(
     alloc: Global,
-    code: &Code,
-    spots: &[Spot],
-    s: &FlatState,
+    program: &Program,
+    s: &Flat,
     r: Option<u32>,
     i: &Instr,
     ports: &mut [Box<dyn Port>],
 ) -> Result<Change, OutOfMemory>
-    requires spots { AreSpots code.now spots.now }
-    requires can { CanChange code.now s.now i.now }
-    requires signs { map (λ q. sign q) ports.old ≡ code.now.signs }
+    requires can { CanChange program.now s.now.state i.now }
+    requires signs { map (λ q. sign q) ports.old ≡ program.now.signs }
     requires few { (p : ℕ) → asked_in (map (λ q. asked q) ports.old) p < 2 ^ 63 }
-    ensures change { IfOk result (λ c. c ≡ next_of code.now (answers_in (map (λ q. answers q) ports.old)) s.now r i.now) }
+    ensures change { IfOk result (λ c. c ≡ next_of program.now (answers_in (map (λ q. answers q) ports.old)) s.now.state r i.now) }
     ensures signs { map (λ q. sign q) ports.new ≡ map (λ q. sign q) ports.old }
     ensures answers { map (λ q. answers q) ports.new ≡ map (λ q. answers q) ports.old }
-    ensures asks { OnOk result (AskedBy (map (λ q. asked q) ports.old) (map (λ q. asked q) ports.new) (λ q. toll_of q s.now i.now)) }
-    ensures asks_at_most { AskedAtMostBy (map (λ q. asked q) ports.old) (map (λ q. asked q) ports.new) (λ q. toll_of q s.now i.now) }
+    ensures asks { OnOk result (AskedBy (map (λ q. asked q) ports.old) (map (λ q. asked q) ports.new) (λ q. toll_of q s.now.state i.now)) }
+    ensures asks_at_most { AskedAtMostBy (map (λ q. asked q) ports.old) (map (λ q. asked q) ports.new) (λ q. toll_of q s.now.state i.now) }
 {
     match port_call(i) {
-        Some((p, args)) => ask(alloc, code, s, r, p, args, ports),
-        None => step(alloc, code, spots, s, r, i),
+        Some((p, args)) => ask(alloc, program.code(), s, r, p, args, ports),
+        None => step(alloc, program, s, r, i),
     }
 }

@@ -10,15 +10,14 @@ ghost use Rattle.code_form.specs.Variant.{instr_of};
 ghost use Rattle.ports.specs.Asks.{answers_in, asked_in, AskedBy, AskedAtMostBy};
 ghost use Rattle.plain_machine.specs.Running.{IsRunning};
 ghost use Rattle.plain_machine.specs.Tolls.{tolls_from, tolls_of};
-ghost use Rattle.plain_machine.specs.Spots.{AreSpots};
 
-use crate::port::change;
-use crate::reads::result_register;
-use crate::spots::{Spot, spots_of};
-use crate::state::FlatState;
+use crate::program::Program;
+use crate::tries::try_variant;
+use crate::turn::apply;
 use am_base::{OutOfMemory, Outcome};
 use change_set::Change;
 use code_form::{Case, Code, Place, Variants};
+use flat_state::Flat;
 use ports::Port;
 use std::alloc::Global;
 
@@ -34,72 +33,66 @@ pub struct Alone {
 /// The change that a mutant makes in a state.
 fn next(
     alloc: Global,
-    code: &Code,
-    spots: &[Spot],
+    program: &Program,
     variants: &Variants,
     m: u32,
-    s: &FlatState,
+    s: &Flat,
     ports: &mut [Box<dyn Port>],
 ) -> Result<Change, OutOfMemory>
-    requires sound { IsSound code.now }
-    requires table { FitsTable code.now variants.now }
-    requires spots { AreSpots code.now spots.now }
-    requires running { IsRunning code.now s.now }
-    requires signs { map (λ q. sign q) ports.old ≡ code.now.signs }
+    requires sound { IsSound program.now }
+    requires table { FitsTable program.now variants.now }
+    requires running { IsRunning program.now s.now.state }
+    requires signs { map (λ q. sign q) ports.old ≡ program.now.signs }
     requires few { (p : ℕ) → asked_in (map (λ q. asked q) ports.old) p < 2 ^ 63 }
-    ensures change { let v = variant_of variants.now m s.now.running.place in
-        IfOk result (λ c. c ≡ next_by code.now variants.now (answers_in (map (λ q. answers q) ports.old)) v s.now) }
+    ensures change { let v = variant_of variants.now m s.now.state.running.place in
+        IfOk result (λ c. c ≡ next_by program.now variants.now (answers_in (map (λ q. answers q) ports.old)) v s.now.state) }
     ensures signs { map (λ q. sign q) ports.new ≡ map (λ q. sign q) ports.old }
     ensures answers { map (λ q. answers q) ports.new ≡ map (λ q. answers q) ports.old }
-    ensures asks { let v = variant_of variants.now m s.now.running.place in
+    ensures asks { let v = variant_of variants.now m s.now.state.running.place in
         OnOk result (AskedBy (map (λ q. asked q) ports.old) (map (λ q. asked q) ports.new)
-        (λ p. toll_of p s.now (instr_of code.now variants.now s.now.running.place v))) }
-    ensures asks_at_most { let v = variant_of variants.now m s.now.running.place in
+        (λ p. toll_of p s.now.state (instr_of program.now variants.now s.now.state.running.place v))) }
+    ensures asks_at_most { let v = variant_of variants.now m s.now.state.running.place in
         AskedAtMostBy (map (λ q. asked q) ports.old) (map (λ q. asked q) ports.new)
-        (λ p. toll_of p s.now (instr_of code.now variants.now s.now.running.place v)) }
+        (λ p. toll_of p s.now.state (instr_of program.now variants.now s.now.state.running.place v)) }
 {
-    let place = s.place();
-    let v = variants.variant(m, Place(place));
-    let r = result_register(code, place);
-    let i = variants.instr(code, Place(place), v);
-    change(alloc, code, spots, s, r, i, ports)
+    let v = variants.variant(m, Place(s.place()));
+    try_variant(alloc, program, variants, v, s, ports)
 }
 
 /// Makes the changes of a mutant from a state on, to its end or to the end of the budget, and answers how many there were.
 fn run(
     alloc: Global,
-    code: &Code,
-    spots: &[Spot],
+    program: &Program,
     variants: &Variants,
     m: u32,
     case: &Case,
-    s: &mut FlatState,
+    s: &mut Flat,
     ports: &mut [Box<dyn Port>],
 ) -> Result<u64, OutOfMemory>
-    requires sound { IsSound code.now }
-    requires table { FitsTable code.now variants.now }
-    requires spots { AreSpots code.now spots.now }
-    requires running { IsRunning code.now s.old }
-    requires signs { map (λ q. sign q) ports.old ≡ code.now.signs }
+    requires sound { IsSound program.now }
+    requires table { FitsTable program.now variants.now }
+    requires running { IsRunning program.now s.old.state }
+    requires signs { map (λ q. sign q) ports.old ≡ program.now.signs }
     requires few { (p : ℕ) → asked_in (map (λ q. asked q) ports.old) p + case.now.budget < 2 ^ 63 }
-    ensures state { let T = case_trial code.now variants.now (answers_in (map (λ q. answers q) ports.old)) case.now in
-        IfOk result (λ _. s.new ≡ state_after T s.old (changes_from T m case.now.budget s.old)) }
-    ensures length { let T = case_trial code.now variants.now (answers_in (map (λ q. answers q) ports.old)) case.now in
-        IfOk result (λ n. n ≡ length (changes_from T m case.now.budget s.old)) }
+    ensures state { let T = case_trial program.now variants.now (answers_in (map (λ q. answers q) ports.old)) case.now in
+        IfOk result (λ _. s.new.state ≡ state_after T s.old.state (changes_from T m case.now.budget s.old.state)) }
+    ensures length { let T = case_trial program.now variants.now (answers_in (map (λ q. answers q) ports.old)) case.now in
+        IfOk result (λ n. n ≡ length (changes_from T m case.now.budget s.old.state)) }
     ensures signs { map (λ q. sign q) ports.new ≡ map (λ q. sign q) ports.old }
     ensures answers { map (λ q. answers q) ports.new ≡ map (λ q. answers q) ports.old }
-    ensures asks { let T = case_trial code.now variants.now (answers_in (map (λ q. answers q) ports.old)) case.now in
-        OnOk result (AskedBy (map (λ q. asked q) ports.old) (map (λ q. asked q) ports.new) (λ p. tolls_from T m p s.old (changes_from T m case.now.budget s.old))) }
-    ensures asks_at_most { let T = case_trial code.now variants.now (answers_in (map (λ q. answers q) ports.old)) case.now in
-        AskedAtMostBy (map (λ q. asked q) ports.old) (map (λ q. asked q) ports.new) (λ p. tolls_from T m p s.old (changes_from T m case.now.budget s.old)) }
+    ensures asks { let T = case_trial program.now variants.now (answers_in (map (λ q. answers q) ports.old)) case.now in
+        OnOk result (AskedBy (map (λ q. asked q) ports.old) (map (λ q. asked q) ports.new) (λ p. tolls_from T m p s.old.state (changes_from T m case.now.budget s.old.state))) }
+    ensures asks_at_most { let T = case_trial program.now variants.now (answers_in (map (λ q. answers q) ports.old)) case.now in
+        AskedAtMostBy (map (λ q. asked q) ports.old) (map (λ q. asked q) ports.new) (λ p. tolls_from T m p s.old.state (changes_from T m case.now.budget s.old.state)) }
 {
     let budget = case.budget;
     for i in 0..budget {
         if s.has_ended() {
             return Ok(i);
         }
-        let change = next(alloc, code, spots, variants, m, s, ports)?;
-        s.apply(alloc, code, spots, change)?;
+        let change = next(alloc, program, variants, m, s, ports)?;
+        s.ready(program.code(), &change)?;
+        apply(program, s, &change);
     }
     Ok(budget)
 }
@@ -140,18 +133,9 @@ pub fn run_alone(
     ensures asks_at_most { let T = case_trial code.now variants.now (answers_in (map (λ q. answers q) ports.old)) case.now in
         AskedAtMostBy (map (λ q. asked q) ports.old) (map (λ q. asked q) ports.new) (tolls_of T m) }
 {
-    let spots = spots_of(alloc, code)?;
-    let mut state = FlatState::start(alloc, code, case)?;
-    let length = run(
-        alloc,
-        code,
-        spots.as_slice(),
-        variants,
-        m,
-        case,
-        &mut state,
-        ports,
-    )?;
+    let program = Program::new(alloc, code)?;
+    let mut state = Flat::start(alloc, code, case)?;
+    let length = run(alloc, &program, variants, m, case, &mut state, ports)?;
     Ok(Alone {
         outcome: state.into_outcome(),
         length,

@@ -1,6 +1,6 @@
 //! Where each place stands: its function and its block, found once a run, so that no step looks for them.
-ghost use Rattle.std.specs.Prelude.{◌≡◌, ◌<◌, ◌+◌, ◌^◌, ◌++◌, length, IfOk, OnOk, replicate};
-ghost use Rattle.code_form.specs.Places.{function_of, block_of};
+ghost use Rattle.std.specs.Prelude.{◌≡◌, ◌<◌, ◌+◌, ◌^◌, ◌++◌, length, IfOk, OnOk, replicate, unwrap_or};
+ghost use Rattle.code_form.specs.Places.{function_of, block_in};
 ghost use Rattle.code_form.specs.Sound.{IsSound};
 ghost use Rattle.plain_machine.specs.Spots.{AreSpots, spots_of_blocks, spots_of_functions};
 
@@ -55,21 +55,20 @@ pub fn spots_of(alloc: Global, code: &Code) -> Result<Vec<Spot>, OutOfMemory>
     Ok(spots)
 }
 
+/// The index of the block of a place in the place's function.
+pub fn block_here(code: &Code, spots: &[Spot], place: u32) -> usize
+    requires spots { AreSpots code.now spots.now }
+    requires within { place < length code.now.instrs }
+    ensures { result ≡ unwrap_or (block_in (function_of code.now place).blocks place) 0 }
+{
+    spots[place as usize].block
+}
+
 /// The function of a place.
-fn function_here<'a>(code: &'a Code, spots: &[Spot], place: u32) -> &'a Func
+pub fn function_here<'a>(code: &'a Code, spots: &[Spot], place: u32) -> &'a Func
     requires spots { AreSpots code.now spots.now }
     requires within { place < length code.now.instrs }
     ensures { result.now ≡ function_of code.now place }
 {
     &code.funcs.as_slice()[spots[place as usize].function]
-}
-
-/// The block with a number in the function of a place.
-pub fn block_here(code: &Code, spots: &[Spot], place: u32, b: u32) -> Block
-    requires spots { AreSpots code.now spots.now }
-    requires within { place < length code.now.instrs }
-    requires block { b < length (function_of code.now place).blocks }
-    ensures { result ≡ block_of code.now place b }
-{
-    function_here(code, spots, place).blocks.as_slice()[b as usize]
 }

@@ -4,18 +4,17 @@ ghost use Rattle.machine_form.specs.Straight.{write_of, end_change, trap_change,
 ghost use Rattle.machine_form.specs.Next.{bin_change, cmp_change, select_change, cast_change, freeze_change, next_of};
 ghost use Rattle.plain_machine.specs.Operands.{HoldsWord, CanStep};
 ghost use Rattle.machine_form.specs.Calls.{Answers};
-ghost use Rattle.plain_machine.specs.Spots.{AreSpots};
 
 use crate::call::ret;
 use crate::edge::{branch, jump, switch};
 use crate::get::get;
 use crate::memory::{alloca, load, store};
 use crate::outside::call;
-use crate::spots::Spot;
-use crate::state::FlatState;
+use crate::program::Program;
 use am_base::{BinOp, Cast, Ending, OutOfMemory, Pred, Trap, Width, binary, compare, convert};
 use change_set::{ByteWrites, Change, Control, RegisterWrites};
-use code_form::{Code, Instr, Operand};
+use code_form::{Instr, Operand};
+use flat_state::Flat;
 use std::alloc::Global;
 
 /// The write of a word, where the instruction has a register for it.
@@ -30,8 +29,8 @@ pub fn write(alloc: Global, r: Option<u32>, word: u64) -> Result<RegisterWrites,
 }
 
 /// The instruction has this word, and the run goes on at the next place.
-pub fn gives(alloc: Global, s: &FlatState, r: Option<u32>, word: u64) -> Result<Change, OutOfMemory>
-    ensures { IfOk result (λ c. c ≡ word_change s.now r word) }
+pub fn gives(alloc: Global, s: &Flat, r: Option<u32>, word: u64) -> Result<Change, OutOfMemory>
+    ensures { IfOk result (λ c. c ≡ word_change s.now.state r word) }
 {
     Ok(Change {
         writes: write(alloc, r, word)?,
@@ -44,8 +43,8 @@ pub fn gives(alloc: Global, s: &FlatState, r: Option<u32>, word: u64) -> Result<
 }
 
 /// The run ends, and nothing else changes.
-pub fn ends(alloc: Global, s: &FlatState, ending: Ending) -> Change
-    ensures { result ≡ end_change s.now ending }
+pub fn ends(alloc: Global, s: &Flat, ending: Ending) -> Change
+    ensures { result ≡ end_change s.now.state ending }
 {
     Change {
         writes: RegisterWrites::new(alloc),
@@ -58,24 +57,24 @@ pub fn ends(alloc: Global, s: &FlatState, ending: Ending) -> Change
 }
 
 /// The run ends by a trap, and nothing else changes.
-pub fn traps(alloc: Global, s: &FlatState, trap: Trap) -> Change
-    ensures { result ≡ trap_change s.now trap }
+pub fn traps(alloc: Global, s: &Flat, trap: Trap) -> Change
+    ensures { result ≡ trap_change s.now.state trap }
 {
     ends(alloc, s, Ending::Trap(trap))
 }
 
 fn bin(
     alloc: Global,
-    s: &FlatState,
+    s: &Flat,
     r: Option<u32>,
     op: BinOp,
     w: Width,
     a: Operand,
     b: Operand,
 ) -> Result<Change, OutOfMemory>
-    requires left { HoldsWord s.now w a }
-    requires right { HoldsWord s.now w b }
-    ensures { IfOk result (λ c. c ≡ bin_change s.now r op w a b) }
+    requires left { HoldsWord s.now.state w a }
+    requires right { HoldsWord s.now.state w b }
+    ensures { IfOk result (λ c. c ≡ bin_change s.now.state r op w a b) }
 {
     let Some(x) = s.value(a) else {
         return Ok(traps(alloc, s, Trap::UnsetRegister));
@@ -91,16 +90,16 @@ fn bin(
 
 fn cmp(
     alloc: Global,
-    s: &FlatState,
+    s: &Flat,
     r: Option<u32>,
     p: Pred,
     w: Width,
     a: Operand,
     b: Operand,
 ) -> Result<Change, OutOfMemory>
-    requires left { HoldsWord s.now w a }
-    requires right { HoldsWord s.now w b }
-    ensures { IfOk result (λ c. c ≡ cmp_change s.now r p w a b) }
+    requires left { HoldsWord s.now.state w a }
+    requires right { HoldsWord s.now.state w b }
+    ensures { IfOk result (λ c. c ≡ cmp_change s.now.state r p w a b) }
 {
     let Some(x) = s.value(a) else {
         return Ok(traps(alloc, s, Trap::UnsetRegister));
@@ -113,13 +112,13 @@ fn cmp(
 
 fn select(
     alloc: Global,
-    s: &FlatState,
+    s: &Flat,
     r: Option<u32>,
     c: Operand,
     a: Operand,
     b: Operand,
 ) -> Result<Change, OutOfMemory>
-    ensures { IfOk result (λ change. change ≡ select_change s.now r c a b) }
+    ensures { IfOk result (λ change. change ≡ select_change s.now.state r c a b) }
 {
     let Some(k) = s.value(c) else {
         return Ok(traps(alloc, s, Trap::UnsetRegister));
@@ -135,15 +134,15 @@ fn select(
 
 fn cast(
     alloc: Global,
-    s: &FlatState,
+    s: &Flat,
     r: Option<u32>,
     c: Cast,
     from: Width,
     to: Width,
     a: Operand,
 ) -> Result<Change, OutOfMemory>
-    requires { HoldsWord s.now from a }
-    ensures { IfOk result (λ change. change ≡ cast_change s.now r c from to a) }
+    requires { HoldsWord s.now.state from a }
+    ensures { IfOk result (λ change. change ≡ cast_change s.now.state r c from to a) }
 {
     let Some(x) = s.value(a) else {
         return Ok(traps(alloc, s, Trap::UnsetRegister));
@@ -151,8 +150,8 @@ fn cast(
     gives(alloc, s, r, convert(c, from, to, x))
 }
 
-fn freeze(alloc: Global, s: &FlatState, r: Option<u32>, a: Operand) -> Result<Change, OutOfMemory>
-    ensures { IfOk result (λ c. c ≡ freeze_change s.now r a) }
+fn freeze(alloc: Global, s: &Flat, r: Option<u32>, a: Operand) -> Result<Change, OutOfMemory>
+    ensures { IfOk result (λ c. c ≡ freeze_change s.now.state r a) }
 {
     let Some(x) = s.value(a) else {
         return Ok(traps(alloc, s, Trap::UnsetRegister));
@@ -163,15 +162,13 @@ fn freeze(alloc: Global, s: &FlatState, r: Option<u32>, a: Operand) -> Result<Ch
 /// The change that an instruction makes that calls no port. `r` is the register of its place.
 pub fn step(
     alloc: Global,
-    code: &Code,
-    spots: &[Spot],
-    s: &FlatState,
+    program: &Program,
+    s: &Flat,
     r: Option<u32>,
     i: &Instr,
 ) -> Result<Change, OutOfMemory>
-    requires spots { AreSpots code.now spots.now }
-    requires operands { CanStep code.now s.now i.now }
-    ensures { (answers : Answers) → IfOk result (λ change. change ≡ next_of code.now answers s.now r i.now) }
+    requires operands { CanStep program.now s.now.state i.now }
+    ensures { (answers : Answers) → IfOk result (λ change. change ≡ next_of program.now answers s.now.state r i.now) }
 {
     match i {
         Instr::Bin(op, w, a, b) => bin(alloc, s, r, *op, *w, *a, *b),
@@ -181,13 +178,13 @@ pub fn step(
         Instr::Freeze(a) => freeze(alloc, s, r, *a),
         Instr::Alloca(size, align, count) => alloca(alloc, s, r, *size, *align, *count),
         Instr::Load(w, a) => load(alloc, s, r, *w, *a),
-        Instr::Store(w, a, b) => store(alloc, code, s, *w, *a, *b),
+        Instr::Store(w, a, b) => store(alloc, program.code(), s, *w, *a, *b),
         Instr::Get(a, literal, indices) => get(alloc, s, r, *a, *literal, indices.as_slice()),
-        Instr::Call(callee, args) => call(alloc, code, s, r, *callee, args.as_slice()),
-        Instr::Jump(b) => jump(alloc, code, spots, s, *b),
-        Instr::Branch(c, b, d) => branch(alloc, code, spots, s, *c, *b, *d),
+        Instr::Call(callee, args) => call(alloc, program.code(), s, r, *callee, args.as_slice()),
+        Instr::Jump(b) => jump(alloc, program, s, *b),
+        Instr::Branch(c, b, d) => branch(alloc, program, s, *c, *b, *d),
         Instr::Switch(_, a, other, cases) => {
-            switch(alloc, code, spots, s, *a, *other, cases.as_slice())
+            switch(alloc, program, s, *a, *other, cases.as_slice())
         }
         Instr::Ret(a) => ret(alloc, s, *a),
         Instr::Phi(_) | Instr::Unreachable => Ok(traps(alloc, s, Trap::Unreachable)),

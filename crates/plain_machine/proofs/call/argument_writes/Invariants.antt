@@ -6,4 +6,4 @@ use Rattle.plain_machine.proofs.WriteSteps.{after_front}
 use Rattle.plain_machine.proofs.call.argument_writes.Given as goal
 
 abbrev pub invariant-loop-i : goal.invariant-loop-i
-invariant-loop-i l = after_front l.writes (option_map (numbered l.i) (values_of l.s (drop l.i l.args))) ≡ option_map (numbered 0) (values_of l.s l.args)
+invariant-loop-i l = after_front l.writes (option_map (numbered l.i) (values_of l.s.state (drop l.i l.args))) ≡ option_map (numbered 0) (values_of l.s.state l.args)

@@ -1,25 +1,35 @@
-use Rattle.std.proofs.Common.{map}
+use Rattle.std.proofs.Common.{List, Option, ℕ, map, ap, sym, subst}
+use Rattle.traces.specs.Trace.{Trial}
+use Rattle.code_form.specs.declared.code.Code.{Code}
+use Rattle.machine_form.specs.declared.change.Change.{Change}
+use Rattle.machine_form.specs.State.{State}
 use Rattle.machine_form.specs.Machine.{case_trial}
 use Rattle.ports.specs.Asks.{answers_in}
+use Rattle.plain_machine.specs.Running.{IsRunning}
 use Rattle.plain_machine.proofs.Steps.{start_running}
 use Rattle.plain_machine.proofs.Turns.{run_asks, run_asks_at_most}
 use Rattle.plain_machine.proofs.run.run_alone.Goals as goal
 
 pub run-requires-clause-running : goal.run-requires-clause-running
 run-requires-clause-running g c =
-    start_running c.args.code.now c.args.case.now c.in_ok-state.state c.requires.sound c.requires.case c.in_ok-state.ensures.state c.in_ok-state.ensures.bytes c.in_ok-state.ensures.input
+    let P : Code → Type 0 = λ d. IsRunning d c.in_ok-state.state.state in
+    subst P (sym c.in_ok-program.ensures)
+    (start_running c.args.code.now c.args.case.now c.in_ok-state.state.state c.requires.sound c.requires.case c.in_ok-state.ensures.state c.in_ok-state.ensures.bytes c.in_ok-state.ensures.input)
 
 pub returns-in_err-length-clause-asks_at_most : goal.returns-in_err-length-clause-asks_at_most
 returns-in_err-length-clause-asks_at_most g c =
-    let T = case_trial c.args.code.now c.args.variants.now (answers_in (map (λ q. (goal.Port-dyn g (q.vtable, q.value)).answers q.value) c.args.ports.now)) c.args.case.now in
-    run_asks_at_most T c.args.m _ _ c.in_ok-state.state c.in_ok-state.ensures.state c.in_err-length.ensures.asks_at_most
+    let answers = map (λ q. (goal.Port-dyn g (q.vtable, q.value)).answers q.value) c.args.ports.now in
+    let T : Code → Trial State Change = λ d. case_trial d c.args.variants.now (answers_in answers) c.args.case.now in
+    run_asks_at_most (T c.in_ok-program.program) (T c.args.code.now) (ap T c.in_ok-program.ensures) c.args.m _ _ c.in_ok-state.state.state c.in_ok-state.ensures.state c.in_err-length.ensures.asks_at_most
 
 pub returns-clause-asks : goal.returns-clause-asks
 returns-clause-asks g c =
-    let T = case_trial c.args.code.now c.args.variants.now (answers_in (map (λ q. (goal.Port-dyn g (q.vtable, q.value)).answers q.value) c.args.ports.now)) c.args.case.now in
-    run_asks T c.args.m _ _ c.in_ok-state.state c.in_ok-state.ensures.state c.in_ok-length.ensures.asks
+    let answers = map (λ q. (goal.Port-dyn g (q.vtable, q.value)).answers q.value) c.args.ports.now in
+    let T : Code → Trial State Change = λ d. case_trial d c.args.variants.now (answers_in answers) c.args.case.now in
+    run_asks (T c.in_ok-program.program) (T c.args.code.now) (ap T c.in_ok-program.ensures) c.args.m _ _ c.in_ok-state.state.state c.in_ok-state.ensures.state c.in_ok-length.ensures.asks
 
 pub returns-clause-asks_at_most : goal.returns-clause-asks_at_most
 returns-clause-asks_at_most g c =
-    let T = case_trial c.args.code.now c.args.variants.now (answers_in (map (λ q. (goal.Port-dyn g (q.vtable, q.value)).answers q.value) c.args.ports.now)) c.args.case.now in
-    run_asks_at_most T c.args.m _ _ c.in_ok-state.state c.in_ok-state.ensures.state c.in_ok-length.ensures.asks_at_most
+    let answers = map (λ q. (goal.Port-dyn g (q.vtable, q.value)).answers q.value) c.args.ports.now in
+    let T : Code → Trial State Change = λ d. case_trial d c.args.variants.now (answers_in answers) c.args.case.now in
+    run_asks_at_most (T c.in_ok-program.program) (T c.args.code.now) (ap T c.in_ok-program.ensures) c.args.m _ _ c.in_ok-state.state.state c.in_ok-state.ensures.state c.in_ok-length.ensures.asks_at_most

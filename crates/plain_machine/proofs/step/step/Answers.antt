@@ -3,6 +3,7 @@ use Rattle.std.specs.List.{All}
 use Rattle.am_base.specs.declared.word.Width.{Width}
 use Rattle.code_form.specs.declared.instr.Operand.{Operand}
 use Rattle.code_form.specs.declared.instr.Instr.{Instr}
+use Rattle.code_form.specs.declared.code.Code.{Code}
 use Rattle.machine_form.specs.Straight.{values_of, with_value}
 use Rattle.machine_form.specs.Calls.{call_change}
 use Rattle.machine_form.specs.Next.{next_of}
@@ -11,14 +12,16 @@ use Rattle.plain_machine.proofs.step.step.Goals as goal
 
 pub get-requires : goal.get-requires
 get-requires c =
-    let P : Instr → Type 0 = CanStep c.args.code.now c.args.s.now in
-    let Q : List (ℕ × Width × Operand) → Type 0 = All (λ i. HoldsWord c.args.s.now i.1 i.2) in
+    let P : Instr → Type 0 = CanStep c.args.program.now c.args.s.now.state in
+    let Q : List (ℕ × Width × Operand) → Type 0 = All (λ i. HoldsWord c.args.s.now.state i.1 i.2) in
     subst Q (sym c.as_slice.ensures) (subst P c.in-Get.is c.requires.operands)
 
 pub returns-in-Call : goal.returns-in-Call
 returns-in-Call c answers =
-    let code = c.args.code.now in
-    let s = c.args.s.now in
+    let code = c.args.program.now in
+    let s = c.args.s.now.state in
     let P : Instr → Type 0 = λ i. IfOk c.call.result (λ change. change ≡ next_of code answers s c.args.r i) in
     let Q : List Operand → Type 0 = λ args. IfOk c.call.result (λ change. change ≡ with_value s (values_of s args) (λ xs. call_change code answers s c.args.r c.in-Call.callee xs)) in
-    subst P (sym c.in-Call.is) (subst Q c.as_slice-in-Call.ensures (c.call.ensures answers))
+    let R : Code → Type 0 = λ d. IfOk c.call.result
+    (λ change. change ≡ with_value s (values_of s c.as_slice-in-Call.result.now) (λ xs. call_change d answers s c.args.r c.in-Call.callee xs)) in
+    subst P (sym c.in-Call.is) (subst Q c.as_slice-in-Call.ensures (subst R c.code-in-Call.ensures (c.call.ensures answers)))
