@@ -1,0 +1,8 @@
+use Rattle.exec_machine.proofs.Numbers.{distinct_push, below_push}
+use Rattle.flat_machine.proofs.numbers.Numbers.give.Goals as goal
+
+pub invariant_of-self-2 : goal.invariant_of-self-2
+invariant_of-self-2 c = record {
+  below = rw c.in_ok-push.ensures.items (below_push _ _ c.args.self.now.below);
+  distinct = rw c.in_ok-push.ensures.items (distinct_push _ _ c.args.self.now.below c.args.self.now.distinct);
+}

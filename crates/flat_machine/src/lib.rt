@@ -1,0 +1,15 @@
+//! The machine of the engine over flat states: each state has memory of its own, and a fork copies it.
+#![tactic(auto)]
+
+mod group;
+mod machine;
+mod numbers;
+mod own_ports;
+mod state;
+mod subject;
+mod turns;
+
+pub use machine::{FlatMachine, FlatOver};
+pub use own_ports::{OwnPorts, Ports};
+pub use state::FlatState;
+pub use subject::Subject;
