@@ -1,11 +1,13 @@
 -- What an analysis comes to once no execution goes on, and after a refusal.
-use Rattle.std.proofs.Common.{◌≡◌, ℕ, ◌+◌, ◌≤◌, false, not, ◌&&◌, nat_lt, List, [], ◌∷◌, ◌++◌, length, map, slice_index, nat_eq, sym, ap, ◌∙◌, subst, arith, append_assoc}
+use Rattle.std.proofs.Common.{◌≡◌, ℕ, ◌+◌, ◌≤◌, false, not, ◌&&◌, nat_lt, List, [], ◌∷◌, ◌++◌, length, map, slice_index, nat_eq, sym, ap, ◌∙◌, subst, arith}
+use Rattle.std.proofs.Common.{append_assoc}
 use Rattle.std.specs.List.{All, Contains, IsDistinct, sum_by, flat_map, remove}
 use Rattle.std.specs.List.Sorted.{IsPermutation, IsNonDecreasingBy}
 use Rattle.std.proofs.lemmas.List.{map-append}
 use Rattle.std.proofs.lemmas.List.Folds.{flat_map-map}
 use Rattle.std.proofs.lemmas.List.Elements.{All-map, All-contains, Contains-append_left, Contains-append_right}
-use Rattle.std.proofs.lemmas.List.Sorted.{IsPermutation-sym, IsPermutation-trans, IsPermutation-cons, IsPermutation-map, IsPermutation-middle, IsPermutation-append_left, IsPermutation-append_right, IsPermutation-remove, All-permutation}
+use Rattle.std.proofs.lemmas.List.Sorted.{IsPermutation-sym, IsPermutation-trans, IsPermutation-cons, IsPermutation-map, IsPermutation-middle}
+use Rattle.std.proofs.lemmas.List.Sorted.{IsPermutation-append_left, IsPermutation-append_right, IsPermutation-remove, All-permutation}
 use Rattle.std.proofs.lemmas.Map.Keys.{IsDistinct-IsPermutation}
 use Rattle.std.proofs.lemmas.Simd.{map-map}
 use Rattle.code_form.specs.Variant.{Table}
@@ -27,17 +29,17 @@ use Rattle.traces.specs.Counts.{RoseBy}
 use Rattle.exec_core.specs.Counted.{totals}
 use Rattle.traces.specs.Ends.{IsEnd}
 use Rattle.exec_core.specs.Engines.{split_seen}
-use Rattle.exec_core.specs.Lives.{execution_of, live_numbers}
+use Rattle.exec_core.specs.Executions.{execution_of, state_numbers}
 use Rattle.code_form.specs.Trial.{trial_of}
 use Rattle.exec_core.specs.Turned.{executions_of, IsHeld}
 use Rattle.exec_core.specs.declared.engine.Engine.{Engine}
-use Rattle.exec_core.specs.declared.lives.Live.{Live}
+use Rattle.exec_core.specs.declared.execution.Execution.{Execution as Concrete}
 use Rattle.exec_core.specs.declared.result.Class.{Class}
 use Rattle.traces.proofs.WholeTraces.{ended_is}
 use Rattle.exec_core.proofs.GoingLemmas.{ones}
 use Rattle.exec_core.proofs.Holding.{All-from_contains, apart_lists}
 use Rattle.exec_machine.proofs.Numbers.{flips, contains_rest}
-use Rattle.exec_core.proofs.PieceLemmas.{contains_map}
+use Rattle.exec_core.proofs.ChildLemmas.{contains_map}
 use Rattle.exec_core.proofs.PrepareLemmas.{left_distinct, right_distinct}
 
 alone_is : {W C : Type 0} (T : Trial W C) → total_cost T (λ m n. 1) ≡ alone T
@@ -88,7 +90,8 @@ module _ {M S W C : Type 0} (V : View M S W C) (lawful : IsLawful V) (a b : M) (
     over : All (λ e. is_live T e ≡ false) es
     over = subst (All (λ e. is_live T e ≡ false)) (sym es_are)
         (All-map (λ e. is_live T e ≡ false) (execution_of V b) E.ended.items
-        (subst (λ (A : Meanings W C). All (λ (l : Live S). (not (A.ended (V.stands b l.state)) && nat_lt l.step budget) ≡ false) E.ended.items) going.keeps.meanings held.over))
+        (subst (λ (A : Meanings W C). All (λ (l : Concrete S). (not (A.ended (V.stands b l.state)) && nat_lt l.step budget) ≡ false) E.ended.items)
+        going.keeps.meanings held.over))
 
     paid : (f : ℕ → ℕ → ℕ) → cost_so_far f es ≡ total_cost T f
     paid f = all_spent T (lawful.same a) f es going.config over
@@ -118,40 +121,49 @@ module _ {M S W C : Type 0} (V : View M S W C) (lawful : IsLawful V) (a b : M) (
     all_splits = splits_written T (map split_seen E.splits.items) (λ x. going.splits x ∙ paid (split_cost T x))
 
     module _ (classes : List (Class S)) (moved : IsPermutation (map class_from E.ended.items) classes) where
-      ends : (l : Live S) → Contains E.ended.items l → IsEnd T (execution_of V b l)
+      ends : (l : Concrete S) → Contains E.ended.items l → IsEnd T (execution_of V b l)
       ends l c =
-          let there : Contains es (execution_of V b l) = subst (λ xs. Contains xs (execution_of V b l)) (sym es_are) (contains_map (execution_of V b) E.ended.items l c) in
-          ended_is T (lawful.same a) (execution_of V b l) (All-contains (IsExecution T) es (execution_of V b l) going.config.each there) (All-contains (λ e. is_live T e ≡ false) es (execution_of V b l) over there)
+          let there : Contains es (execution_of V b l) = subst (λ xs. Contains xs (execution_of V b l)) (sym es_are)
+          (contains_map (execution_of V b) E.ended.items l c) in
+          ended_is T (lawful.same a) (execution_of V b l) (All-contains (IsExecution T) es (execution_of V b l) going.config.each there)
+          (All-contains (λ e. is_live T e ≡ false) es (execution_of V b l) over there)
 
       pub are_classes : IsNonDecreasingBy (λ c. slice_index c.members 0) classes → AreClasses V T b classes
       are_classes rising = record {
         once = IsPermutation-trans (below T.mutants) (flat_map (λ e. e.members) es) (flat_map (λ (c : Class S). c.members) classes) going.config.once
             (subst (λ xs. IsPermutation xs (flat_map (λ (c : Class S). c.members) classes))
-            (flat_map-map (λ (c : Class S). c.members) class_from E.ended.items ∙ sym (ap (flat_map (λ (e : Execution W). e.members)) es_are ∙ flat_map-map (λ (e : Execution W). e.members) (execution_of V b) E.ended.items))
+            (flat_map-map (λ (c : Class S). c.members) class_from E.ended.items
+            ∙ sym (ap (flat_map (λ (e : Execution W). e.members)) es_are ∙ flat_map-map (λ (e : Execution W). e.members) (execution_of V b) E.ended.items))
             (flat_map_moved (λ (c : Class S). c.members) (map class_from E.ended.items) classes moved));
         each = All-permutation (λ c. IsEnd T (end_of V b c)) (map class_from E.ended.items) classes moved
             (All-map (λ c. IsEnd T (end_of V b c)) class_from E.ended.items (All-from_contains (λ l. IsEnd T (execution_of V b l)) E.ended.items ends));
         rising = rising;
         out = All-permutation (λ c. V.is_out b c.state) (map class_from E.ended.items) classes moved
             (All-map (λ (c : Class S). V.is_out b c.state) class_from E.ended.items
-            (All-from_contains (λ (l : Live S). V.is_out b l.state) E.ended.items (λ l c. All-contains (λ (x : Live S). V.is_out b x.state) (E.lives.items ++ E.ended.items) l held.out (Contains-append_right E.lives.items E.ended.items l c))));
+            (All-from_contains (λ (l : Concrete S). V.is_out b l.state) E.ended.items
+            (λ l c. All-contains (λ (x : Concrete S). V.is_out b x.state) (E.lives.items ++ E.ended.items) l held.out
+            (Contains-append_right E.lives.items E.ended.items l c))));
       }
 
       pub states_out : IsPermutation (n ∷ V.out_numbers b) (class_numbers V classes ++ V.out_numbers a)
       states_out =
-          let ns = live_numbers V E.ended.items in let r = remove (V.out_numbers a) o.0 in let cs = class_numbers V classes in
-          let out : IsPermutation (V.out_numbers b) (ns ++ r) = subst (λ xs. IsPermutation (V.out_numbers b) (live_numbers V (xs ++ E.ended.items) ++ r)) none held.numbers in
-          let same : IsPermutation ns cs = subst (λ xs. IsPermutation xs cs) (map-map (λ (c : Class S). V.number c.state) class_from E.ended.items) (IsPermutation-map (λ (c : Class S). V.number c.state) (map class_from E.ended.items) classes moved) in
+          let ns = state_numbers V E.ended.items in let r = remove (V.out_numbers a) o.0 in let cs = class_numbers V classes in
+          let out : IsPermutation (V.out_numbers b) (ns ++ r) = subst (λ xs. IsPermutation (V.out_numbers b) (state_numbers V (xs ++ E.ended.items) ++ r)) none
+          held.numbers in
+          let same : IsPermutation ns cs = subst (λ xs. IsPermutation xs cs) (map-map (λ (c : Class S). V.number c.state) class_from E.ended.items)
+          (IsPermutation-map (λ (c : Class S). V.number c.state) (map class_from E.ended.items) classes moved) in
           IsPermutation-trans (n ∷ V.out_numbers b) (n ∷ (ns ++ r)) (cs ++ V.out_numbers a) (IsPermutation-cons n (V.out_numbers b) (ns ++ r) out)
-          (IsPermutation-trans (n ∷ (ns ++ r)) (ns ++ n ∷ r) (cs ++ V.out_numbers a) (IsPermutation-sym (ns ++ n ∷ r) (n ∷ (ns ++ r)) (IsPermutation-middle ns n r))
+          (IsPermutation-trans (n ∷ (ns ++ r)) (ns ++ n ∷ r) (cs ++ V.out_numbers a)
+          (IsPermutation-sym (ns ++ n ∷ r) (n ∷ (ns ++ r)) (IsPermutation-middle ns n r))
           (IsPermutation-trans (ns ++ n ∷ r) (ns ++ V.out_numbers a) (cs ++ V.out_numbers a)
           (IsPermutation-append_right ns (n ∷ r) (V.out_numbers a) (IsPermutation-sym (V.out_numbers a) (n ∷ r) beside))
           (IsPermutation-append_left (V.out_numbers a) ns cs same)))
 
 -- after a refusal all states of the executions are released
-module _ {M S W C : Type 0} (V : View M S W C) (lawful : IsLawful V) (T : Trial W C) (a b : M) (n : ℕ) (E : Engine S C) (k0 k : ℕ) (stopped : IsStopped V T a b n E k0 k)
+module _ {M S W C : Type 0} (V : View M S W C) (lawful : IsLawful V) (T : Trial W C) (a b : M) (n : ℕ) (E : Engine S C) (k0 k : ℕ)
+    (stopped : IsStopped V T a b n E k0 k)
     (o : Contains (V.out_numbers a) n) where
-  abbrev all : List (Live S)
+  abbrev all : List (Concrete S)
   all = E.lives.items ++ E.ended.items
 
   left_beside : IsPermutation (V.out_numbers a) (n ∷ remove (V.out_numbers a) o.0)
@@ -163,22 +175,25 @@ module _ {M S W C : Type 0} (V : View M S W C) (lawful : IsLawful V) (T : Trial 
   pub left_out : All (λ l. V.is_out b l.state) (E.lives.items ++ E.ended.items)
   left_out = left_held.out
 
-  whole_distinct : IsDistinct nat_eq (live_numbers V (E.lives.items ++ E.ended.items) ++ remove (V.out_numbers a) o.0)
+  whole_distinct : IsDistinct nat_eq (state_numbers V (E.lives.items ++ E.ended.items) ++ remove (V.out_numbers a) o.0)
   whole_distinct = IsDistinct-IsPermutation nat_eq flips (V.out_numbers b) _ left_held.numbers (lawful.distinct b)
 
-  pub left_distinct_numbers : IsDistinct nat_eq (live_numbers V (E.lives.items ++ E.ended.items))
-  left_distinct_numbers = left_distinct (live_numbers V (E.lives.items ++ E.ended.items)) (remove (V.out_numbers a) o.0) whole_distinct
+  pub left_distinct_numbers : IsDistinct nat_eq (state_numbers V (E.lives.items ++ E.ended.items))
+  left_distinct_numbers = left_distinct (state_numbers V (E.lives.items ++ E.ended.items)) (remove (V.out_numbers a) o.0) whole_distinct
 
-  module _ (c : M) (p : IsPermutation (V.out_numbers b) (live_numbers V (E.lives.items ++ E.ended.items) ++ V.out_numbers c)) (q : Keeps V b c (live_numbers V (E.lives.items ++ E.ended.items))) where
+  module _ (c : M) (p : IsPermutation (V.out_numbers b) (state_numbers V (E.lives.items ++ E.ended.items) ++ V.out_numbers c))
+      (q : Keeps V b c (state_numbers V (E.lives.items ++ E.ended.items))) where
     pub released : IsPermutation (V.out_numbers a) (n ∷ V.out_numbers c)
     released =
-        let ns = live_numbers V (E.lives.items ++ E.ended.items) in let r = remove (V.out_numbers a) o.0 in
+        let ns = state_numbers V (E.lives.items ++ E.ended.items) in let r = remove (V.out_numbers a) o.0 in
         IsPermutation-trans (V.out_numbers a) (n ∷ r) (n ∷ V.out_numbers c) left_beside
-        (IsPermutation-cons n r (V.out_numbers c) (cancel_front ns r (V.out_numbers c) (IsPermutation-trans (ns ++ r) (V.out_numbers b) (ns ++ V.out_numbers c) (IsPermutation-sym (V.out_numbers b) (ns ++ r) left_held.numbers) p)))
+        (IsPermutation-cons n r (V.out_numbers c) (cancel_front ns r (V.out_numbers c)
+        (IsPermutation-trans (ns ++ r) (V.out_numbers b) (ns ++ V.out_numbers c) (IsPermutation-sym (V.out_numbers b) (ns ++ r) left_held.numbers) p)))
 
-    none_of_ours : (j : ℕ) → Contains (V.out_numbers a) j → (Contains (n ∷ []) j → ⊥) → Contains (live_numbers V (E.lives.items ++ E.ended.items)) j → ⊥
-    none_of_ours j i ne h = apart_lists (live_numbers V (E.lives.items ++ E.ended.items)) (remove (V.out_numbers a) o.0) j whole_distinct h
-        (contains_rest (V.out_numbers a) (remove (V.out_numbers a) o.0) n j left_beside i (λ e. ne (subst (Contains (n ∷ [])) (sym e) (Rattle.traces.proofs.Lists.contains_here n []))))
+    none_of_ours : (j : ℕ) → Contains (V.out_numbers a) j → (Contains (n ∷ []) j → ⊥) → Contains (state_numbers V (E.lives.items ++ E.ended.items)) j → ⊥
+    none_of_ours j i ne h = apart_lists (state_numbers V (E.lives.items ++ E.ended.items)) (remove (V.out_numbers a) o.0) j whole_distinct h
+        (contains_rest (V.out_numbers a) (remove (V.out_numbers a) o.0) n j left_beside i
+        (λ e. ne (subst (Contains (n ∷ [])) (sym e) (Rattle.traces.proofs.Lists.contains_here n []))))
 
     pub still_keeps : Keeps V a c (n ∷ [])
     still_keeps = record {
@@ -189,43 +204,47 @@ module _ {M S W C : Type 0} (V : View M S W C) (lawful : IsLawful V) (T : Trial 
     }
 
 -- the executions in two lists, of which the one is released before the other
-module _ {M S W C : Type 0} (V : View M S W C) (lawful : IsLawful V) (a : M) (lives ended : List (Live S)) (o : All (λ l. V.is_out a l.state) (lives ++ ended))
-    (d : IsDistinct nat_eq (live_numbers V (lives ++ ended))) where
-  numbers_both : live_numbers V (lives ++ ended) ≡ live_numbers V lives ++ live_numbers V ended
+module _ {M S W C : Type 0} (V : View M S W C) (lawful : IsLawful V) (a : M) (lives ended : List (Concrete S))
+    (o : All (λ l. V.is_out a l.state) (lives ++ ended))
+    (d : IsDistinct nat_eq (state_numbers V (lives ++ ended))) where
+  numbers_both : state_numbers V (lives ++ ended) ≡ state_numbers V lives ++ state_numbers V ended
   numbers_both = map-append (λ l. V.number l.state) lives ended
 
-  both_distinct : IsDistinct nat_eq (live_numbers V lives ++ live_numbers V ended)
+  both_distinct : IsDistinct nat_eq (state_numbers V lives ++ state_numbers V ended)
   both_distinct = subst (IsDistinct nat_eq) numbers_both d
 
   pub lives_out : All (λ l. V.is_out a l.state) lives
-  lives_out = All-from_contains (λ l. V.is_out a l.state) lives (λ l c. All-contains (λ x. V.is_out a x.state) (lives ++ ended) l o (Contains-append_left lives ended l c))
+  lives_out = All-from_contains (λ l. V.is_out a l.state) lives (λ l c. All-contains (λ x. V.is_out a x.state) (lives ++ ended) l o
+      (Contains-append_left lives ended l c))
 
-  pub lives_distinct : IsDistinct nat_eq (live_numbers V lives)
-  lives_distinct = left_distinct (live_numbers V lives) (live_numbers V ended) both_distinct
+  pub lives_distinct : IsDistinct nat_eq (state_numbers V lives)
+  lives_distinct = left_distinct (state_numbers V lives) (state_numbers V ended) both_distinct
 
-  pub ended_distinct : IsDistinct nat_eq (live_numbers V ended)
-  ended_distinct = right_distinct (live_numbers V lives) (live_numbers V ended) both_distinct
+  pub ended_distinct : IsDistinct nat_eq (state_numbers V ended)
+  ended_distinct = right_distinct (state_numbers V lives) (state_numbers V ended) both_distinct
 
-  module _ (b : M) (k : Keeps V a b (live_numbers V lives)) where
+  module _ (b : M) (k : Keeps V a b (state_numbers V lives)) where
     pub ended_out : All (λ l. V.is_out b l.state) ended
     ended_out = All-from_contains (λ l. V.is_out b l.state) ended (λ l c.
         k.out l.state (All-contains (λ x. V.is_out a x.state) (lives ++ ended) l o (Contains-append_right lives ended l c))
-        (λ h. apart_lists (live_numbers V lives) (live_numbers V ended) (V.number l.state) both_distinct h (contains_map (λ x. V.number x.state) ended l c)))
+        (λ h. apart_lists (state_numbers V lives) (state_numbers V ended) (V.number l.state) both_distinct h (contains_map (λ x. V.number x.state) ended l c)))
 
-    module _ (c : M) (p : IsPermutation (V.out_numbers a) (live_numbers V lives ++ V.out_numbers b)) (q : IsPermutation (V.out_numbers b) (live_numbers V ended ++ V.out_numbers c)) (j : Keeps V b c (live_numbers V ended)) where
-      pub both_released : IsPermutation (V.out_numbers a) (live_numbers V (lives ++ ended) ++ V.out_numbers c)
+    module _ (c : M) (p : IsPermutation (V.out_numbers a) (state_numbers V lives ++ V.out_numbers b))
+        (q : IsPermutation (V.out_numbers b) (state_numbers V ended ++ V.out_numbers c)) (j : Keeps V b c (state_numbers V ended)) where
+      pub both_released : IsPermutation (V.out_numbers a) (state_numbers V (lives ++ ended) ++ V.out_numbers c)
       both_released = subst (λ xs. IsPermutation (V.out_numbers a) (xs ++ V.out_numbers c)) (sym numbers_both)
-          (subst (IsPermutation (V.out_numbers a)) (sym (append_assoc (live_numbers V lives) (live_numbers V ended) (V.out_numbers c)))
-          (IsPermutation-trans (V.out_numbers a) (live_numbers V lives ++ V.out_numbers b) (live_numbers V lives ++ (live_numbers V ended ++ V.out_numbers c)) p
-          (IsPermutation-append_right (live_numbers V lives) (V.out_numbers b) (live_numbers V ended ++ V.out_numbers c) q)))
+          (subst (IsPermutation (V.out_numbers a)) (sym (append_assoc (state_numbers V lives) (state_numbers V ended) (V.out_numbers c)))
+          (IsPermutation-trans (V.out_numbers a) (state_numbers V lives ++ V.out_numbers b) (state_numbers V lives
+          ++ (state_numbers V ended ++ V.out_numbers c)) p
+          (IsPermutation-append_right (state_numbers V lives) (V.out_numbers b) (state_numbers V ended ++ V.out_numbers c) q)))
 
-      in_lives : (x : ℕ) → (Contains (live_numbers V (lives ++ ended)) x → ⊥) → Contains (live_numbers V lives) x → ⊥
-      in_lives x ne h = ne (subst (λ ns. Contains ns x) (sym numbers_both) (Contains-append_left (live_numbers V lives) (live_numbers V ended) x h))
+      in_lives : (x : ℕ) → (Contains (state_numbers V (lives ++ ended)) x → ⊥) → Contains (state_numbers V lives) x → ⊥
+      in_lives x ne h = ne (subst (λ ns. Contains ns x) (sym numbers_both) (Contains-append_left (state_numbers V lives) (state_numbers V ended) x h))
 
-      in_ended : (x : ℕ) → (Contains (live_numbers V (lives ++ ended)) x → ⊥) → Contains (live_numbers V ended) x → ⊥
-      in_ended x ne h = ne (subst (λ ns. Contains ns x) (sym numbers_both) (Contains-append_right (live_numbers V lives) (live_numbers V ended) x h))
+      in_ended : (x : ℕ) → (Contains (state_numbers V (lives ++ ended)) x → ⊥) → Contains (state_numbers V ended) x → ⊥
+      in_ended x ne h = ne (subst (λ ns. Contains ns x) (sym numbers_both) (Contains-append_right (state_numbers V lives) (state_numbers V ended) x h))
 
-      pub both_keep : Keeps V a c (live_numbers V (lives ++ ended))
+      pub both_keep : Keeps V a c (state_numbers V (lives ++ ended))
       both_keep = record {
         meanings = j.meanings ∙ k.meanings;
         stays = lawful.stays_trans a b c k.stays j.stays;

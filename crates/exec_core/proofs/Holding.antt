@@ -4,8 +4,10 @@ use Rattle.std.specs.List.{All, Contains, IsDistinct}
 use Rattle.std.specs.List.Sorted.{IsPermutation}
 use Rattle.std.proofs.lemmas.Bool.{true≢false, eq-eqb}
 use Rattle.std.proofs.lemmas.List.{map-append}
-use Rattle.std.proofs.lemmas.List.Elements.{All-nil, All-push, All-weaker, All-contains, All-from_recursion, Contains-append_left, Contains-append_right, Contains-push, Contains-get_or}
-use Rattle.std.proofs.lemmas.List.Sorted.{IsPermutation-refl, IsPermutation-trans, IsPermutation-cons, IsPermutation-append_left, IsPermutation-append_right, IsPermutation-to_front, IsPermutation-middle}
+use Rattle.std.proofs.lemmas.List.Elements.{All-nil, All-push, All-weaker, All-contains, All-from_recursion, Contains-append_left, Contains-append_right}
+use Rattle.std.proofs.lemmas.List.Elements.{Contains-push, Contains-get_or}
+use Rattle.std.proofs.lemmas.List.Sorted.{IsPermutation-refl, IsPermutation-trans, IsPermutation-cons, IsPermutation-append_left, IsPermutation-append_right}
+use Rattle.std.proofs.lemmas.List.Sorted.{IsPermutation-to_front, IsPermutation-middle}
 use Rattle.std.proofs.lemmas.Map.Keys.{IsDistinct-head, IsDistinct-tail, IsDistinct-IsPermutation}
 use Rattle.traces.specs.Counts.{Counts, SameCounts}
 use Rattle.traces.specs.View.{View, IsLawful, Keeps}
@@ -26,7 +28,14 @@ pub same_counts : (a : Counts) → SameCounts a a
 same_counts a = record { tried = refl; applied = refl; weighed = refl; readied = refl; asks = λ p. refl }
 
 pub same_counts_more : (a b c : Counts) → SameCounts a b → SameCounts b c → SameCounts a c
-same_counts_more a b c p q = record { tried = q.tried ∙ p.tried; applied = q.applied ∙ p.applied; weighed = q.weighed ∙ p.weighed; readied = q.readied ∙ p.readied; asks = λ k. q.asks k ∙ p.asks k }
+same_counts_more a b c p q = record {
+  tried = q.tried ∙ p.tried;
+  applied = q.applied ∙ p.applied;
+  weighed = q.weighed ∙ p.weighed;
+  readied = q.readied
+      ∙ p.readied;
+  asks = λ k. q.asks k ∙ p.asks k;
+}
 
 pub apart_lists : (xs ys : List ℕ) (k : ℕ) → IsDistinct nat_eq (xs ++ ys) → Contains xs k → Contains ys k → ⊥
 apart_lists [] ys k d c e = let l = c.1 in absurd (omega arith)
@@ -40,7 +49,8 @@ module _ {M S W C : Type 0} (V : View M S W C) (lawful : IsLawful V) where
   pub keeps_none : (m : M) (xs : List ℕ) → Keeps V m m xs
   keeps_none m xs = record { meanings = refl; stays = lawful.stays_refl m; out = λ t o n. o; stands = λ t o n. refl }
 
-  pub keeps_more : (a b c : M) (xs ys zs : List ℕ) → ((k : ℕ) → Contains xs k → Contains zs k) → ((k : ℕ) → Contains ys k → Contains zs k) → Keeps V a b xs → Keeps V b c ys → Keeps V a c zs
+  pub keeps_more : (a b c : M) (xs ys zs : List ℕ) → ((k : ℕ) → Contains xs k → Contains zs k) → ((k : ℕ) → Contains ys k → Contains zs k) → Keeps V a b xs
+      → Keeps V b c ys → Keeps V a c zs
   keeps_more a b c xs ys zs f g p q = record {
     meanings = q.meanings ∙ p.meanings;
     stays = lawful.stays_trans a b c p.stays q.stays;
@@ -59,7 +69,8 @@ module _ {M S W C : Type 0} (V : View M S W C) (lawful : IsLawful V) where
     stand = All-push (λ u. V.stands c u ≡ V.stands a s) ts t (λ k d l. k'.stands _ (f.out k d l) (nowhere _) ∙ f.stand k d l) (st ∙ e);
     numbers = subst (λ xs. IsPermutation (xs ++ V.out_numbers a) (V.out_numbers c)) (sym (map-append V.number ts (t ∷ [])))
         (IsPermutation-trans _ (V.number t ∷ V.out_numbers b) _ (IsPermutation-trans _ (V.number t ∷ (map V.number ts ++ V.out_numbers a)) _
-        (IsPermutation-append_left (V.out_numbers a) (map V.number ts ++ V.number t ∷ []) (V.number t ∷ map V.number ts) (IsPermutation-to_front (map V.number ts) (V.number t)))
+        (IsPermutation-append_left (V.out_numbers a) (map V.number ts ++ V.number t ∷ []) (V.number t ∷ map V.number ts)
+        (IsPermutation-to_front (map V.number ts) (V.number t)))
         (IsPermutation-cons (V.number t) _ _ f.numbers)) p);
   }
 
@@ -86,16 +97,20 @@ module _ {M S W C : Type 0} (V : View M S W C) (lawful : IsLawful V) where
       let d = subst (λ xs. IsDistinct nat_eq (map V.number xs)) e l.distinct in
       let o = subst (All (V.is_out b)) e l.out in
       let n = V.number s in
-      let all' : all ≡ map V.number fore ++ (n ∷ l.gone) = (l.all_are ∙ ap (λ xs. map V.number xs ++ l.gone) e ∙ ap (λ xs. xs ++ l.gone) (map-append V.number fore (s ∷ [])) ∙ append_assoc (map V.number fore) (n ∷ []) l.gone) in
+      let all' : all ≡ map V.number fore ++ (n ∷ l.gone) = (l.all_are ∙ ap (λ xs. map V.number xs ++ l.gone) e
+      ∙ ap (λ xs. xs ++ l.gone) (map-append V.number fore (s ∷ [])) ∙ append_assoc (map V.number fore) (n ∷ []) l.gone) in
       record {
-        out = All-from_contains (V.is_out c) fore (λ t i. k.out t (All-contains (V.is_out b) (fore ++ s ∷ []) t o (Contains-append_left fore (s ∷ []) t i)) (λ h. apart fore s t d i (sym (single h))));
+        out = All-from_contains (V.is_out c) fore (λ t i. k.out t (All-contains (V.is_out b) (fore ++ s ∷ []) t o (Contains-append_left fore (s ∷ []) t i))
+            (λ h. apart fore s t d i (sym (single h))));
         distinct = front_distinct (map V.number fore) n (subst (IsDistinct nat_eq) (map-append V.number fore (s ∷ [])) d);
         gone = n ∷ l.gone;
         all_are = all';
         numbers = IsPermutation-trans (V.out_numbers a) (l.gone ++ V.out_numbers b) (n ∷ (l.gone ++ V.out_numbers c)) l.numbers
             (IsPermutation-trans _ _ _ (IsPermutation-append_right l.gone _ _ p) (IsPermutation-middle l.gone n (V.out_numbers c)));
-        keeps = keeps_more a b c all (n ∷ []) all (λ j h. h) (λ j h. subst (λ xs. Contains xs j) (sym all') (Contains-append_right (map V.number fore) (n ∷ l.gone) j (subst (Contains (n ∷ l.gone)) (single h) (contains_here n l.gone)))) l.keeps k;
+        keeps = keeps_more a b c all (n ∷ []) all (λ j h. h) (λ j h. subst (λ xs. Contains xs j) (sym all')
+            (Contains-append_right (map V.number fore) (n ∷ l.gone) j (subst (Contains (n ∷ l.gone)) (single h) (contains_here n l.gone)))) l.keeps k;
       }
 
   pub none_left : (a b : M) (all : List ℕ) (rest : List S) → AreLeftOf V a all b rest → rest ≡ [] → IsPermutation (V.out_numbers a) (all ++ V.out_numbers b)
-  none_left a b all rest l e = subst (λ xs. IsPermutation (V.out_numbers a) (xs ++ V.out_numbers b)) (sym (l.all_are ∙ ap (λ xs. map V.number xs ++ l.gone) e)) l.numbers
+  none_left a b all rest l e = subst (λ xs. IsPermutation (V.out_numbers a) (xs ++ V.out_numbers b))
+      (sym (l.all_are ∙ ap (λ xs. map V.number xs ++ l.gone) e)) l.numbers

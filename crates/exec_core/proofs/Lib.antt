@@ -1,6 +1,6 @@
 pub mod Holding
-pub mod PieceLemmas
-mod LiveLemmas
+pub mod ChildLemmas
+mod ExecutionLemmas
 mod PrepareLemmas
 mod DivideLemmas
 mod RefusalLemmas
@@ -13,6 +13,6 @@ mod PlannedLemmas
 mod GoingLemmas
 mod SortLemmas
 mod EndingLemmas
-mod Marked
 mod CountLemmas
+mod OrderLemmas
 mod PickLemmas

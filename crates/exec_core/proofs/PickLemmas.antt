@@ -1,32 +1,32 @@
 -- An analysis whose live executions change places.
-use Rattle.std.proofs.Common.{◌≡◌, ℕ, ◌+◌, true, false, List, [], ◌++◌, map, sym, ap, ◌∙◌, subst}
-use Rattle.std.specs.List.{All, count_by}
+use Rattle.std.proofs.Common.{◌≡◌, ℕ, ◌+◌, true, List, [], ◌++◌, map, sym, ap, ◌∙◌, subst}
+use Rattle.std.specs.List.{count_by}
 use Rattle.std.specs.List.Sorted.{IsPermutation}
-use Rattle.std.proofs.lemmas.List.Sorted.{IsPermutation-trans, IsPermutation-sym, IsPermutation-append_left, IsPermutation-map, All-permutation}
-use Rattle.code_form.specs.Variant.{Table}
-use Rattle.traces.specs.View.{View, IsLawful}
+use Rattle.std.proofs.lemmas.List.Sorted.{IsPermutation-trans, IsPermutation-append_left, IsPermutation-map, All-permutation}
+use Rattle.traces.specs.View.{View}
 use Rattle.traces.specs.Trace.{Trial}
-use Rattle.traces.specs.Configuration.{Execution, IsConfiguration}
+use Rattle.traces.specs.Configuration.{IsConfiguration}
 use Rattle.traces.specs.Cost.{cost_so_far, step_cost, try_cost, load_cost, asks_cost, same_split, split_cost}
 use Rattle.traces.proofs.Permutations.{configuration_moved}
 use Rattle.exec_core.specs.Analysed.{IsGoing}
 use Rattle.exec_core.specs.Engines.{split_seen}
-use Rattle.exec_core.specs.Lives.{execution_of, live_numbers, goes_on}
+use Rattle.exec_core.specs.Executions.{execution_of, state_numbers, goes_on}
 use Rattle.exec_core.specs.Picked.{IsArranged}
 use Rattle.exec_core.specs.Turned.{executions_of, IsHeld}
 use Rattle.exec_core.specs.declared.engine.Engine.{Engine}
-use Rattle.exec_core.specs.declared.lives.Live.{Live}
+use Rattle.exec_core.specs.declared.execution.Execution.{Execution as Concrete}
 use Rattle.exec_core.proofs.GoingLemmas.{moved_cost}
 
-module _ {M S W C : Type 0} (V : View M S W C) (m : M) (budget : ℕ) (others : List ℕ) (before after ended : List (Live S)) (p : IsPermutation before after) where
+module _ {M S W C : Type 0} (V : View M S W C) (m : M) (budget : ℕ) (others : List ℕ) (before after ended : List (Concrete S))
+    (p : IsPermutation before after) where
   all_moved : IsPermutation (before ++ ended) (after ++ ended)
   all_moved = IsPermutation-append_left ended before after p
 
   pub held_moved : IsHeld V m budget others before ended → IsHeld V m budget others after ended
   held_moved h = record {
     out = All-permutation (λ l. V.is_out m l.state) (before ++ ended) (after ++ ended) all_moved h.out;
-    numbers = IsPermutation-trans (V.out_numbers m) (live_numbers V (before ++ ended) ++ others) (live_numbers V (after ++ ended) ++ others) h.numbers
-        (IsPermutation-append_left others (live_numbers V (before ++ ended)) (live_numbers V (after ++ ended))
+    numbers = IsPermutation-trans (V.out_numbers m) (state_numbers V (before ++ ended) ++ others) (state_numbers V (after ++ ended) ++ others) h.numbers
+        (IsPermutation-append_left others (state_numbers V (before ++ ended)) (state_numbers V (after ++ ended))
         (IsPermutation-map (λ l. V.number l.state) (before ++ ended) (after ++ ended) all_moved));
     live = All-permutation (λ l. goes_on V m budget l ≡ true) before after p h.live;
     over = h.over;

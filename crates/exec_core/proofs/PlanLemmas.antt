@@ -12,22 +12,22 @@ use Rattle.traces.specs.Configuration.{Execution, same_change, is_leader, part, 
 use Rattle.traces.proofs.Turns.{any_from}
 use Rattle.traces.proofs.Plans.{same_place, parts_same}
 use Rattle.change_classes.specs.First.{first_equal}
-use Rattle.member_sets.specs.Members.{IsMemberList, is_least, class_at, parts_by}
+use Rattle.member_sets.specs.Members.{IsMemberList, is_class_leader, class_at, parts_by}
 use Rattle.std.proofs.lemmas.List.Elements.{All-contains}
 use Rattle.exec_core.specs.ClassTable.{HasClasses}
 use Rattle.exec_core.specs.Plans.{own_firsts, plans_of, plans_at}
-use Rattle.exec_core.specs.declared.plans.Plan.{Plan}
+use Rattle.exec_core.specs.declared.plan.Plan.{Plan}
 use Rattle.exec_core.proofs.ChangeLemmas.{leading_changes, pairs_are}
 use Rattle.exec_machine.proofs.Numbers.{flips}
-use Rattle.exec_core.proofs.PieceLemmas.{contains_map}
-use Rattle.exec_core.proofs.TriedLemmas.{any_firsts}
+use Rattle.exec_core.proofs.ChildLemmas.{contains_map}
+use Rattle.member_sets.proofs.Firsts.{any_firsts}
 
 contained : (x : ℕ) (xs : List ℕ) → list_any (λ c. c == x) xs ≡ true → Contains xs x
 contained x xs h = Contains-from_any {eq = λ a b. a == b} (λ a b e. eqb-true a b e) x xs (ap (λ p. list_any p xs) (λ i c. flips x c i) ∙ h)
 
 module _ {S C : Type 0} (T : Trial S C) (same : IsSameTest T.meanings) (e : Execution S) (is : IsMemberList e.members) (table : List ℕ) where
   abbrev pub variants : List ℕ
-  variants = map (variant_in T e) (filter (is_least (variant_in T e) e.members) e.members)
+  variants = map (variant_in T e) (filter (is_class_leader (variant_in T e) e.members) e.members)
 
   abbrev pub change : ℕ → C
   change v = T.meanings.next v e.state
@@ -40,14 +40,15 @@ module _ {S C : Type 0} (T : Trial S C) (same : IsSameTest T.meanings) (e : Exec
       let v = variant_in T e in let n = length e.members in
       let all = take_all n e.members (omega arith) in
       contained (v m) variants
-      (subst (λ ms. list_any (λ x. x == v m) (map v (filter (is_least v e.members) ms)) ≡ true) all
+      (subst (λ ms. list_any (λ x. x == v m) (map v (filter (is_class_leader v e.members) ms)) ≡ true) all
       (any_firsts v e.members is (v m) n (omega arith)
       ∙ ap (λ ms. list_any (λ x. x == v m) (map v ms)) all
       ∙ any_from (λ x. x == v m) (map v e.members) (v m) (contains_map v e.members m c) (eq-eqb _ _ refl)))
 
   module _ (h : HasClasses variants (first_equal T.meanings.same changes) table) where
     -- a variant's class is the place of the first change that is equal to the one it makes
-    class_is : (m : ℕ) → Contains e.members m → slice_index table (variant_in T e m) ≡ position_or_len (λ y. T.meanings.same y (change (variant_in T e m))) changes
+    class_is : (m : ℕ) → Contains e.members m → slice_index table (variant_in T e m) ≡ position_or_len
+        (λ y. T.meanings.same y (change (variant_in T e m))) changes
     class_is m c =
         let v = variant_in T e m in let t = there m c in let i = t.0 in
         let at : slice_index variants i ≡ v = (get_or_default variants i 0 v t.1 ∙ t.2) in
@@ -57,9 +58,11 @@ module _ {S C : Type 0} (T : Trial S C) (same : IsSameTest T.meanings) (e : Exec
         ∙ get_or-map place changes i (change v) 0 l
         ∙ ap place (get_or-map change variants i 0 (change v) t.1 ∙ ap change at)
 
-    same_classes : (m k : ℕ) → Contains e.members m → Contains e.members k → (slice_index table (variant_in T e m) == slice_index table (variant_in T e k)) ≡ same_change T e m k
+    same_classes : (m k : ℕ) → Contains e.members m → Contains e.members k
+        → (slice_index table (variant_in T e m) == slice_index table (variant_in T e k)) ≡ same_change T e m k
     same_classes m k c d =
-        let f : (j : ℕ) → Contains e.members j → Contains changes (change (variant_in T e j)) = (λ j i. contains_map change variants (variant_in T e j) (there j i)) in
+        let f : (j : ℕ) → Contains e.members j → Contains changes (change (variant_in T e j)) =
+        (λ j i. contains_map change variants (variant_in T e j) (there j i)) in
         ap (λ n. n == slice_index table (variant_in T e k)) (class_is m c)
         ∙ ap (λ n. position_or_len (λ y. T.meanings.same y (change (variant_in T e m))) changes == n) (class_is k d)
         ∙ same_place T.meanings.same same.sound same.complete changes (change (variant_in T e m)) (change (variant_in T e k)) (f m c) (f k d)
@@ -91,7 +94,22 @@ module _ {S C : Type 0} (T : Trial S C) (same : IsSameTest T.meanings) (e : Exec
     within_table m c = subst (λ q. T.variant m q < length table) (sym here)
         (All-contains (λ v. v < length table) (variants_of T e) (variant_in T e m) has.within (there T same e is table m c))
 
-    pub parts_planned : (ps : List (List ℕ)) → ps ≡ parts_by (class_at T.variant p table) e.members → ps ≡ of_leaders (λ m. filter (same_change T e m) e.members)
+    -- the class of a member is one of the numbers
+    pub among_numbers : (m : ℕ) → Contains e.members m → Contains ns (class_at T.variant p table m)
+    among_numbers m c =
+        let v = variant_in T e m in let xs = variants_of T e in let next : ℕ → C = λ u. T.meanings.next u e.state in
+        let numbers = first_equal T.meanings.same (map next xs) in
+        let t = there T same e is table m c in let i = t.0 in
+        let l : i < length numbers = (let a = length-map xs next in let b =
+        length-map (map next xs) (λ x. position_or_len (λ y. T.meanings.same y x) (map next xs)) in let k = t.1 in omega arith) in
+        let at : slice_index xs i ≡ v = (get_or_default xs i 0 v t.1 ∙ t.2) in
+        let is : slice_index table v ≡ slice_index numbers i = (ap (slice_index table) (sym at) ∙ has.class i t.1) in
+        subst (λ ys. Contains ys (slice_index table (T.variant m p))) (sym (grouped ∙ ap (first_equal T.meanings.same) made_is))
+        (subst (λ q. Contains numbers (slice_index table (T.variant m q))) (sym here)
+        (i, l, get_or_default numbers i (slice_index table v) 0 l ∙ sym is))
+
+    pub parts_planned : (ps : List (List ℕ)) → ps ≡ parts_by (class_at T.variant p table) e.members
+        → ps ≡ of_leaders (λ m. filter (same_change T e m) e.members)
     parts_planned ps f = f ∙ ap (λ q. parts_by (class_at T.variant q table) e.members) here ∙ parts_are T same e is table has
         ∙ map-map (λ x. x.members) (part T e) (filter (is_leader T e) e.members)
 

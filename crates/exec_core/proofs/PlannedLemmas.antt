@@ -1,5 +1,6 @@
 -- The plans of a turn: how many they are, their least members, what they weigh.
-use Rattle.std.proofs.Common.{◌≡◌, ℕ, ◌*◌, ◌<◌, ◌≤◌, true, false, not, ◌&&◌, nat_lt, if◌then◌else◌, List, [], ◌∷◌, length, map, slice_index, get_or, refl, sym, ap, ◌∙◌, subst, arith, ⊎_elim}
+use Rattle.std.proofs.Common.{◌≡◌, ℕ, ◌*◌, ◌<◌, ◌≤◌, true, false, not, ◌&&◌, nat_lt, if◌then◌else◌, List, [], ◌∷◌, length, map, slice_index, get_or, refl, sym}
+use Rattle.std.proofs.Common.{ap, ◌∙◌, subst, arith, ⊎_elim}
 use Rattle.std.specs.List.{All, Contains, sum_by, filter}
 use Rattle.std.proofs.Math.Nat.{mul-le-mul_right}
 use Rattle.std.proofs.lemmas.Bool.{lt-ltb, le-ltb, and_from, cases_lt, false≢true}
@@ -8,6 +9,7 @@ use Rattle.std.proofs.lemmas.List.Elements.{All-contains, Contains-get_or}
 use Rattle.std.proofs.lemmas.List.Kept.{IsStrictlyIncreasing-filter}
 use Rattle.std.proofs.lemmas.List.Sums.{length-filter, count_by-le-length, sum_by-cons}
 use Rattle.std.proofs.lemmas.Simd.{map-map}
+use Rattle.am_base.specs.declared.limits.TheConstants.{MAX_MUTANTS}
 use Rattle.traces.specs.Meanings.{IsSameTest, IsLight}
 use Rattle.traces.specs.View.{IsKnown}
 use Rattle.traces.specs.Trace.{Trial, change_of}
@@ -21,10 +23,10 @@ use Rattle.member_sets.proofs.Parts.{first_least}
 use Rattle.exec_core.specs.Counted.{weight_of_turn}
 use Rattle.exec_core.specs.Plans.{plans_of, plans_at, plan_weights}
 use Rattle.exec_core.specs.Turned.{split_made}
-use Rattle.exec_core.specs.declared.plans.Plan.{Plan}
+use Rattle.exec_core.specs.declared.plan.Plan.{Plan}
 use Rattle.exec_core.proofs.ChangeLemmas.{any_alike, none_any}
 use Rattle.exec_core.proofs.Holding.{All-from_contains}
-use Rattle.exec_core.proofs.PieceLemmas.{map_where, contains_map}
+use Rattle.exec_core.proofs.ChildLemmas.{map_where, contains_map}
 
 map_same : (xs : List ℕ) → map (λ x. x) xs ≡ xs
 map_same [] = refl
@@ -32,7 +34,8 @@ map_same (x ∷ xs) = ap (λ ys. x ∷ ys) (map_same xs)
 
 sum_within : {X : Type 0} (f : X → ℕ) (c : ℕ) (xs : List X) → ((x : X) → Contains xs x → f x ≤ c) → sum_by f xs ≤ length xs * c
 sum_within f c [] h = omega arith
-sum_within f c (x ∷ xs) h = rw (sum_by-cons f x xs) (let a = h x (contains_here x xs) in let i = sum_within f c xs (λ y d. h y (contains_there x y xs d)) in omega arith)
+sum_within f c (x ∷ xs) h = rw (sum_by-cons f x xs) (let a = h x (contains_here x xs) in let i = sum_within f c xs (λ y d. h y (contains_there x y xs d)) in
+    omega arith)
 
 module _ {S C : Type 0} (T : Trial S C) (same : IsSameTest T.meanings) (e : Execution S) (is : IsMemberList e.members) where
   abbrev leaders : List ℕ
@@ -49,9 +52,10 @@ module _ {S C : Type 0} (T : Trial S C) (same : IsSameTest T.meanings) (e : Exec
       (λ k c. ap (λ b. b && same_change T e k m) (le-ltb k m (All-contains (λ j. m ≤ j) e.members k (first_least e.members is.rising) c))) ∙ none_any e.members)
 
   some_leader : 0 < length leaders
-  some_leader = some_from leaders (get_or e.members 0 0) (to_filter (is_leader T e) e.members (get_or e.members 0 0) (Contains-get_or e.members 0 0 is.some) first_leads)
+  some_leader = some_from leaders (get_or e.members 0 0) (to_filter (is_leader T e) e.members (get_or e.members 0 0)
+      (Contains-get_or e.members 0 0 is.some) first_leads)
 
-  few_leaders : length leaders ≤ 65536
+  few_leaders : length leaders ≤ MAX_MUTANTS
   few_leaders = let a = length-filter (is_leader T e) e.members in let b = count_by-le-length (is_leader T e) e.members in let c = is.few in omega arith
 
   -- a leader is the least of its part
@@ -80,7 +84,7 @@ module _ {S C : Type 0} (T : Trial S C) (same : IsSameTest T.meanings) (e : Exec
     pub some_plan : 0 < length plans
     some_plan = let a = count_leaders in let b = some_leader in omega arith
 
-    pub few_plans : length plans ≤ 65536
+    pub few_plans : length plans ≤ MAX_MUTANTS
     few_plans = let a = count_leaders in let b = few_leaders in omega arith
 
     pub as_many_parts : length plans ≡ length (parts T e)
@@ -97,13 +101,16 @@ module _ {S C : Type 0} (T : Trial S C) (same : IsSameTest T.meanings) (e : Exec
         ∙ ap (λ ms. if nat_lt 1 (length leaders) then (e.step, ms) ∷ [] else []) least_are
 
     pub weight_is : plan_weights T.meanings.weight (plans_of plans) ≡ weight_of_turn T e
-    weight_is = ap (plan_weights T.meanings.weight) h ∙ sum_by-map (λ (x : List ℕ × C). T.meanings.weight x.1) (λ m. (filter (same_change T e m) e.members, change_of T m e.state)) leaders
+    weight_is = ap (plan_weights T.meanings.weight) h ∙ sum_by-map (λ (x : List ℕ × C). T.meanings.weight x.1)
+        (λ m. (filter (same_change T e m) e.members, change_of T m e.state)) leaders
 
     module _ (knows : (m : ℕ) → T.meanings.knows (T.meanings.place e.state) (T.variant m (T.meanings.place e.state)) ≡ true) where
       known_at : (x : List ℕ × C) → Contains (plans_at T e) x → IsKnown T.meanings e.state x.1
       known_at x c = All-contains (λ y. IsKnown T.meanings e.state y.1) (plans_at T e) x
-          (Rattle.std.proofs.lemmas.List.Elements.All-map (λ y. IsKnown T.meanings e.state y.1) (λ m. (filter (same_change T e m) e.members, change_of T m e.state)) leaders
-          (All-from_contains (λ m. IsKnown T.meanings e.state (change_of T m e.state)) leaders (λ m d. record { variant = T.variant m (T.meanings.place e.state); knows = knows m; is = refl }))) c
+          (Rattle.std.proofs.lemmas.List.Elements.All-map (λ y. IsKnown T.meanings e.state y.1)
+          (λ m. (filter (same_change T e m) e.members, change_of T m e.state)) leaders
+          (All-from_contains (λ m. IsKnown T.meanings e.state (change_of T m e.state)) leaders
+          (λ m d. record { variant = T.variant m (T.meanings.place e.state); knows = knows m; is = refl }))) c
 
       known_plan : (p : Plan C) → Contains plans p → IsKnown T.meanings e.state p.change
       known_plan p c = known_at (pair p) (subst (λ xs. Contains xs (pair p)) h (contains_map pair plans p c))
@@ -115,9 +122,10 @@ module _ {S C : Type 0} (T : Trial S C) (same : IsSameTest T.meanings) (e : Exec
         light_change : (c : C) → IsKnown T.meanings e.state c → T.meanings.weight c ≤ 65536
         light_change c k = subst (λ d. T.meanings.weight d ≤ 65536) (sym k.is) (light.weight k.variant e.state live k.knows)
 
-        pub light_plans : plan_weights T.meanings.weight (plans_of plans) ≤ 65536 * 65536
+        pub light_plans : plan_weights T.meanings.weight (plans_of plans) ≤ MAX_MUTANTS * 65536
         light_plans =
-            let a = sum_within (λ (x : List ℕ × C). T.meanings.weight x.1) 65536 (plans_of plans) (λ x c. light_change x.1 (known_at x (subst (λ xs. Contains xs x) h c))) in
+            let a = sum_within (λ (x : List ℕ × C). T.meanings.weight x.1) 65536 (plans_of plans)
+            (λ x c. light_change x.1 (known_at x (subst (λ xs. Contains xs x) h c))) in
             let n = length_map pair plans in
-            let few : length (plans_of plans) ≤ 65536 = (let k = few_plans in omega arith) in
-            let b : length (plans_of plans) * 65536 ≤ 65536 * 65536 = mul-le-mul_right 65536 few in omega arith
+            let few : length (plans_of plans) ≤ MAX_MUTANTS = (let k = few_plans in omega arith) in
+            let b : length (plans_of plans) * 65536 ≤ MAX_MUTANTS * 65536 = mul-le-mul_right 65536 few in omega arith

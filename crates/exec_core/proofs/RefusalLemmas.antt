@@ -1,22 +1,24 @@
 -- After a refusal the forks are released, and the state comes back.
-use Rattle.std.proofs.Common.{◌≡◌, ℕ, ◌+◌, length, length-append, arith, List, [], ◌∷◌, ◌++◌, map, reverse, nat_eq, refl, sym, ap, ◌∙◌, subst, append_assoc, ⊎_elim}
+use Rattle.std.proofs.Common.{◌≡◌, ℕ, ◌+◌, length, length-append, arith, List, [], ◌∷◌, ◌++◌, map, reverse, nat_eq, refl, sym, ap, ◌∙◌, subst, append_assoc}
+use Rattle.std.proofs.Common.{⊎_elim}
 use Rattle.std.specs.List.{All, Contains, IsDistinct}
 use Rattle.std.specs.List.Sorted.{IsPermutation}
 use Rattle.std.proofs.lemmas.List.{map-append, reverse-append, reverse-reverse, length-reverse}
 use Rattle.std.proofs.lemmas.Simd.{map-map}
 use Rattle.std.proofs.lemmas.List.Elements.{All-map, All-contains, Contains-append_left, Contains-append_right, Contains-push, Contains-append_cases}
-use Rattle.std.proofs.lemmas.List.Sorted.{IsPermutation-sym, IsPermutation-trans, IsPermutation-append_left, IsPermutation-append_right, IsPermutation-reverse, Contains-permutation}
+use Rattle.std.proofs.lemmas.List.Sorted.{IsPermutation-sym, IsPermutation-trans, IsPermutation-append_left, IsPermutation-append_right, IsPermutation-reverse}
+use Rattle.std.proofs.lemmas.List.Sorted.{Contains-permutation}
 use Rattle.std.proofs.lemmas.Map.Keys.{IsDistinct-IsPermutation}
 use Rattle.traces.specs.View.{View, IsLawful, Keeps}
 use Rattle.traces.proofs.Permutations.{cancel_front}
 use Rattle.traces.proofs.Steps.{length_map}
 use Rattle.exec_core.specs.Held.{AreForksOf, IsBack}
-use Rattle.exec_core.specs.Pieces.{Seen, seen, numbers_of, IsPlanned, IsReadied, AreReadying, IsGivenBack}
+use Rattle.exec_core.specs.Children.{Seen, seen, numbers_of, IsPlanned, IsReadied, AreReadying, IsGivenBack}
 use Rattle.exec_core.specs.Plans.{states_of}
-use Rattle.exec_core.specs.declared.pieces.Piece.{Piece}
+use Rattle.exec_core.specs.declared.divide.Child.{Child}
 use Rattle.exec_machine.proofs.Numbers.{flips}
 use Rattle.exec_core.proofs.Holding.{apart_lists, nowhere, All-from_contains}
-use Rattle.exec_core.proofs.PieceLemmas.{contains_map}
+use Rattle.exec_core.proofs.ChildLemmas.{contains_map}
 use Rattle.exec_core.proofs.PrepareLemmas.{numbers_are, left_distinct, right_distinct}
 
 pub map_reverse : {X Y : Type 0} (f : X → Y) (xs : List X) → map f (reverse xs) ≡ reverse (map f xs)
@@ -40,27 +42,31 @@ ends {X} xs ys x y h =
     (sym (reverse-reverse xs) ∙ ap reverse (ap rest_of r) ∙ reverse-reverse ys, ap (first_of y) r)
 
 module _ {M S W C : Type 0} (V : View M S W C) where
-  -- the last of the pieces all is x, the others stand in two lists that are released
-  module _ (c : M) (all fore back : List (Piece S C)) (x : Piece S C) (are : all ≡ (fore ++ reverse back) ++ x ∷ [])
+  -- the last of the children all is x, the others stand in two lists that are released
+  module _ (c : M) (all fore back : List (Child S C)) (x : Child S C) (are : all ≡ (fore ++ reverse back) ++ x ∷ [])
       (o : All (λ p. V.is_out c p.state) all) (d : IsDistinct nat_eq (numbers_of V all)) where
     numbers_are_of : numbers_of V all ≡ (numbers_of V fore ++ reverse (numbers_of V back)) ++ V.number x.state ∷ []
     numbers_are_of =
         ap (numbers_of V) are ∙ map-append (λ p. V.number p.state) (fore ++ reverse back) (x ∷ [])
-        ∙ ap (λ ns. ns ++ V.number x.state ∷ []) (map-append (λ p. V.number p.state) fore (reverse back) ∙ ap (λ ns. numbers_of V fore ++ ns) (map_reverse (λ p. V.number p.state) back))
+        ∙ ap (λ ns. ns ++ V.number x.state ∷ []) (map-append (λ p. V.number p.state) fore (reverse back)
+        ∙ ap (λ ns. numbers_of V fore ++ ns) (map_reverse (λ p. V.number p.state) back))
 
     both_distinct : IsDistinct nat_eq (numbers_of V fore ++ numbers_of V back)
     both_distinct = IsDistinct-IsPermutation nat_eq flips (numbers_of V fore ++ reverse (numbers_of V back)) (numbers_of V fore ++ numbers_of V back)
-        (IsPermutation-append_right (numbers_of V fore) (reverse (numbers_of V back)) (numbers_of V back) (IsPermutation-sym _ _ (IsPermutation-reverse (numbers_of V back))))
+        (IsPermutation-append_right (numbers_of V fore) (reverse (numbers_of V back)) (numbers_of V back)
+        (IsPermutation-sym _ _ (IsPermutation-reverse (numbers_of V back))))
         (left_distinct (numbers_of V fore ++ reverse (numbers_of V back)) (V.number x.state ∷ []) (subst (IsDistinct nat_eq) numbers_are_of d))
 
-    in_all : (p : Piece S C) → Contains (fore ++ reverse back) p → V.is_out c p.state
-    in_all p i = All-contains (λ y. V.is_out c y.state) ((fore ++ reverse back) ++ x ∷ []) p (subst (All (λ y. V.is_out c y.state)) are o) (Contains-append_left (fore ++ reverse back) (x ∷ []) p i)
+    in_all : (p : Child S C) → Contains (fore ++ reverse back) p → V.is_out c p.state
+    in_all p i = All-contains (λ y. V.is_out c y.state) ((fore ++ reverse back) ++ x ∷ []) p (subst (All (λ y. V.is_out c y.state)) are o)
+        (Contains-append_left (fore ++ reverse back) (x ∷ []) p i)
 
-    states_numbers : (ps : List (Piece S C)) → map V.number (states_of ps) ≡ numbers_of V ps
+    states_numbers : (ps : List (Child S C)) → map V.number (states_of ps) ≡ numbers_of V ps
     states_numbers ps = map-map V.number (λ p. p.state) ps
 
     pub fore_out : All (V.is_out c) (states_of fore)
-    fore_out = All-map (V.is_out c) (λ p. p.state) fore (All-from_contains (λ p. V.is_out c p.state) fore (λ p i. in_all p (Contains-append_left fore (reverse back) p i)))
+    fore_out = All-map (V.is_out c) (λ p. p.state) fore (All-from_contains (λ p. V.is_out c p.state) fore
+        (λ p i. in_all p (Contains-append_left fore (reverse back) p i)))
 
     pub fore_distinct : IsDistinct nat_eq (map V.number (states_of fore))
     fore_distinct = subst (IsDistinct nat_eq) (sym (states_numbers fore)) (left_distinct (numbers_of V fore) (numbers_of V back) both_distinct)
@@ -74,10 +80,12 @@ module _ {M S W C : Type 0} (V : View M S W C) where
         (λ h. apart_lists (numbers_of V fore) (numbers_of V back) (V.number p.state) both_distinct
         (subst (λ xs. Contains xs (V.number p.state)) (states_numbers fore) h) (contains_map (λ y. V.number y.state) back p i))))
 
-    module _ (lawful : IsLawful V) (e f : M) (p : IsPermutation (V.out_numbers c) (map V.number (states_of fore) ++ V.out_numbers e)) (kp : Keeps V c e (map V.number (states_of fore)))
+    module _ (lawful : IsLawful V) (e f : M) (p : IsPermutation (V.out_numbers c) (map V.number (states_of fore) ++ V.out_numbers e))
+        (kp : Keeps V c e (map V.number (states_of fore)))
         (q : IsPermutation (V.out_numbers e) (map V.number (states_of back) ++ V.out_numbers f)) (kq : Keeps V e f (map V.number (states_of back))) where
       others_numbers : IsPermutation (numbers_of V fore ++ numbers_of V back) (numbers_of V (fore ++ reverse back))
-      others_numbers = subst (IsPermutation (numbers_of V fore ++ numbers_of V back)) (sym (map-append (λ y. V.number y.state) fore (reverse back) ∙ ap (λ ns. numbers_of V fore ++ ns) (map_reverse (λ y. V.number y.state) back)))
+      others_numbers = subst (IsPermutation (numbers_of V fore ++ numbers_of V back))
+          (sym (map-append (λ y. V.number y.state) fore (reverse back) ∙ ap (λ ns. numbers_of V fore ++ ns) (map_reverse (λ y. V.number y.state) back)))
           (IsPermutation-append_right (numbers_of V fore) (numbers_of V back) (reverse (numbers_of V back)) (IsPermutation-reverse (numbers_of V back)))
 
       not_fore : (j : ℕ) → (Contains (numbers_of V (fore ++ reverse back)) j → ⊥) → Contains (map V.number (states_of fore)) j → ⊥
@@ -96,9 +104,11 @@ module _ {M S W C : Type 0} (V : View M S W C) where
         is = refl;
         numbers = IsPermutation-trans (V.out_numbers c) (numbers_of V fore ++ V.out_numbers e) (numbers_of V (fore ++ reverse back) ++ V.out_numbers f)
             (subst (λ ns. IsPermutation (V.out_numbers c) (ns ++ V.out_numbers e)) (states_numbers fore) p)
-            (IsPermutation-trans (numbers_of V fore ++ V.out_numbers e) ((numbers_of V fore ++ numbers_of V back) ++ V.out_numbers f) (numbers_of V (fore ++ reverse back) ++ V.out_numbers f)
+            (IsPermutation-trans (numbers_of V fore ++ V.out_numbers e) ((numbers_of V fore ++ numbers_of V back) ++ V.out_numbers f)
+            (numbers_of V (fore ++ reverse back) ++ V.out_numbers f)
             (subst (IsPermutation (numbers_of V fore ++ V.out_numbers e)) (sym (append_assoc (numbers_of V fore) (numbers_of V back) (V.out_numbers f)))
-            (IsPermutation-append_right (numbers_of V fore) (V.out_numbers e) (numbers_of V back ++ V.out_numbers f) (subst (λ ns. IsPermutation (V.out_numbers e) (ns ++ V.out_numbers f)) (states_numbers back) q)))
+            (IsPermutation-append_right (numbers_of V fore) (V.out_numbers e) (numbers_of V back ++ V.out_numbers f)
+            (subst (λ ns. IsPermutation (V.out_numbers e) (ns ++ V.out_numbers f)) (states_numbers back) q)))
             (IsPermutation-append_left (V.out_numbers f) (numbers_of V fore ++ numbers_of V back) (numbers_of V (fore ++ reverse back)) others_numbers));
         keeps = record {
           meanings = kq.meanings ∙ kp.meanings;
@@ -108,38 +118,44 @@ module _ {M S W C : Type 0} (V : View M S W C) where
         };
       }
 
-  -- the pieces through a refused `ready_all` are out, and have different numbers
-  module _ (b c : M) (all rest done : List (Piece S C)) (r : AreReadying V b c all rest done) where
+  -- the children through a refused `ready_all` are out, and have different numbers
+  module _ (b c : M) (all rest done : List (Child S C)) (r : AreReadying V b c all rest done) where
     pub readying_out : All (λ p. V.is_out c p.state) (rest ++ reverse done)
     readying_out = All-from_contains (λ p. V.is_out c p.state) (rest ++ reverse done) (λ p i. ⊎_elim
         (λ (h : Contains rest p). (All-contains (IsPlanned V c) rest p r.planned h).out)
-        (λ (h : Contains (reverse done) p). (All-contains (IsReadied V c) done p r.readied (Contains-permutation (reverse done) done p (IsPermutation-sym _ _ (IsPermutation-reverse done)) h)).planned.out)
+        (λ (h : Contains (reverse done) p). (All-contains (IsReadied V c) done p r.readied
+        (Contains-permutation (reverse done) done p (IsPermutation-sym _ _ (IsPermutation-reverse done)) h)).planned.out)
         (Contains-append_cases rest (reverse done) p i))
 
     pub readying_distinct : IsDistinct nat_eq (numbers_of V (rest ++ reverse done))
     readying_distinct = IsDistinct-IsPermutation nat_eq flips (numbers_of V rest ++ numbers_of V done) (numbers_of V (rest ++ reverse done))
-        (subst (IsPermutation (numbers_of V rest ++ numbers_of V done)) (sym (map-append (λ y. V.number y.state) rest (reverse done) ∙ ap (λ ns. numbers_of V rest ++ ns) (map_reverse (λ y. V.number y.state) done)))
-        (IsPermutation-append_right (numbers_of V rest) (numbers_of V done) (reverse (numbers_of V done)) (IsPermutation-reverse (numbers_of V done)))) r.distinct
+        (subst (IsPermutation (numbers_of V rest ++ numbers_of V done))
+        (sym (map-append (λ y. V.number y.state) rest (reverse done) ∙ ap (λ ns. numbers_of V rest ++ ns) (map_reverse (λ y. V.number y.state) done)))
+        (IsPermutation-append_right (numbers_of V rest) (numbers_of V done) (reverse (numbers_of V done)) (IsPermutation-reverse (numbers_of V done))))
+        r.distinct
 
     pub readying_length : length rest + length done ≡ length all
     readying_length =
         let n = length-append (map (seen V c) rest) (reverse (map (seen V c) done)) in
-        let i = length-reverse (map (seen V c) done) in let j = length_map (seen V c) rest in let k = length_map (seen V c) done in let l = length_map (seen V b) all in
+        let i = length-reverse (map (seen V c) done) in let j = length_map (seen V c) rest in let k = length_map (seen V c) done in let l =
+        length_map (seen V b) all in
         let m = ap length r.seen in omega arith
 
     seen_all : map (seen V c) (rest ++ reverse done) ≡ map (seen V b) all
     seen_all = map-append (seen V c) rest (reverse done) ∙ ap (λ xs. map (seen V c) rest ++ xs) (map_reverse (seen V c) done) ∙ r.seen
 
-module _ {M S W C : Type 0} (V : View M S W C) (lawful : IsLawful V) (a b : M) (own : S) (o : V.is_out a own) (ps : List (Piece S C))
+module _ {M S W C : Type 0} (V : View M S W C) (lawful : IsLawful V) (a b : M) (own : S) (o : V.is_out a own) (ps : List (Child S C))
     (f : AreForksOf V a own b (states_of ps)) (k : Keeps V a b []) where
   abbrev forked : List ℕ
   forked = map V.number (states_of ps)
 
   forked_apart : (j : ℕ) → Contains (V.out_numbers a) j → Contains forked j → ⊥
-  forked_apart j i h = apart_lists forked (V.out_numbers a) j (IsDistinct-IsPermutation nat_eq flips _ _ (IsPermutation-sym _ _ f.numbers) (lawful.distinct b)) h i
+  forked_apart j i h = apart_lists forked (V.out_numbers a) j (IsDistinct-IsPermutation nat_eq flips _ _ (IsPermutation-sym _ _ f.numbers) (lawful.distinct b))
+      h i
 
   same_out : (c : M) → IsPermutation (V.out_numbers b) (forked ++ V.out_numbers c) → IsPermutation (V.out_numbers a) (V.out_numbers c)
-  same_out c p = cancel_front forked (V.out_numbers a) (V.out_numbers c) (IsPermutation-trans (forked ++ V.out_numbers a) (V.out_numbers b) (forked ++ V.out_numbers c) f.numbers p)
+  same_out c p = cancel_front forked (V.out_numbers a) (V.out_numbers c)
+      (IsPermutation-trans (forked ++ V.out_numbers a) (V.out_numbers b) (forked ++ V.out_numbers c) f.numbers p)
 
   pub fork_refused : (c : M) → IsPermutation (V.out_numbers b) (forked ++ V.out_numbers c) → Keeps V b c forked → IsBack V a c own own
   fork_refused c p kc =
@@ -157,18 +173,21 @@ module _ {M S W C : Type 0} (V : View M S W C) (lawful : IsLawful V) (a b : M) (
         };
       }
 
-  module _ (q : Piece S C) (qs : q.state ≡ own) (c e : M) (rest done : List (Piece S C)) (r : AreReadying V b c (ps ++ q ∷ []) rest done) (s : S)
+  module _ (q : Child S C) (qs : q.state ≡ own) (c e : M) (rest done : List (Child S C)) (r : AreReadying V b c (ps ++ q ∷ []) rest done) (s : S)
       (g : IsGivenBack V c e (rest ++ reverse done) s) where
     parted : (map (seen V c) g.others ≡ map (seen V b) ps) × (seen V c g.last ≡ seen V b q)
     parted = ends (map (seen V c) g.others) (map (seen V b) ps) (seen V c g.last) (seen V b q)
-        (sym (map-append (seen V c) g.others (g.last ∷ [])) ∙ ap (map (seen V c)) (sym g.all_are) ∙ seen_all V b c (ps ++ q ∷ []) rest done r ∙ map-append (seen V b) ps (q ∷ []))
+        (sym (map-append (seen V c) g.others (g.last ∷ [])) ∙ ap (map (seen V c)) (sym g.all_are) ∙ seen_all V b c (ps ++ q ∷ []) rest done r
+        ∙ map-append (seen V b) ps (q ∷ []))
 
     others_are : numbers_of V g.others ≡ forked
-    others_are = sym (map-map (λ (x : Seen W C). x.number) (seen V c) g.others) ∙ ap (map (λ (x : Seen W C). x.number)) parted.0 ∙ map-map (λ (x : Seen W C). x.number) (seen V b) ps
+    others_are = sym (map-map (λ (x : Seen W C). x.number) (seen V c) g.others) ∙ ap (map (λ (x : Seen W C). x.number)) parted.0
+        ∙ map-map (λ (x : Seen W C). x.number) (seen V b) ps
         ∙ sym (map-map V.number (λ p. p.state) ps)
 
     last_out : V.is_out c s
-    last_out = subst (V.is_out c) g.is (All-contains (λ p. V.is_out c p.state) (g.others ++ g.last ∷ []) g.last (subst (All (λ p. V.is_out c p.state)) g.all_are (readying_out V b c (ps ++ q ∷ []) rest done r))
+    last_out = subst (V.is_out c) g.is (All-contains (λ p. V.is_out c p.state) (g.others ++ g.last ∷ []) g.last
+        (subst (All (λ p. V.is_out c p.state)) g.all_are (readying_out V b c (ps ++ q ∷ []) rest done r))
         (Contains-push g.others g.last))
 
     own_number : V.number s ≡ V.number own
@@ -189,17 +208,20 @@ module _ {M S W C : Type 0} (V : View M S W C) (lawful : IsLawful V) (a b : M) (
 
     pub ready_refused : IsBack V a e own s
     ready_refused =
-        let n : Contains (numbers_of V g.others) (V.number s) → ⊥ = (λ h. not_given (V.number own) (lawful.among a own o) (subst (Contains (numbers_of V g.others)) own_number h)) in
+        let n : Contains (numbers_of V g.others) (V.number s) → ⊥ =
+        (λ h. not_given (V.number own) (lawful.among a own o) (subst (Contains (numbers_of V g.others)) own_number h)) in
         record {
           number = own_number;
           out = g.keeps.out s last_out n;
           stands = g.keeps.stands s last_out n ∙ own_stands;
-          numbers = same_out e (subst (λ ns. IsPermutation (V.out_numbers b) (ns ++ V.out_numbers e)) others_are (subst (λ ns. IsPermutation ns (numbers_of V g.others ++ V.out_numbers e)) r.out g.numbers));
+          numbers = same_out e (subst (λ ns. IsPermutation (V.out_numbers b) (ns ++ V.out_numbers e)) others_are
+              (subst (λ ns. IsPermutation ns (numbers_of V g.others ++ V.out_numbers e)) r.out g.numbers));
           keeps = record {
             meanings = g.keeps.meanings ∙ r.keeps.meanings ∙ k.meanings;
             stays = lawful.stays_trans a c e (lawful.stays_trans a b c k.stays r.keeps.stays) g.keeps.stays;
             out = λ t i ne. g.keeps.out t (r.keeps.out t (k.out t i (nowhere _)) (not_readied _ (lawful.among a t i) ne)) (not_given _ (lawful.among a t i));
-            stands = λ t i ne. g.keeps.stands t (r.keeps.out t (k.out t i (nowhere _)) (not_readied _ (lawful.among a t i) ne)) (not_given _ (lawful.among a t i))
+            stands = λ t i ne. g.keeps.stands t (r.keeps.out t (k.out t i (nowhere _)) (not_readied _ (lawful.among a t i) ne))
+                (not_given _ (lawful.among a t i))
                 ∙ r.keeps.stands t (k.out t i (nowhere _)) (not_readied _ (lawful.among a t i) ne) ∙ k.stands t i (nowhere _);
           };
         }

@@ -3,11 +3,12 @@ use Rattle.std.proofs.Common.{◌≡◌, ℕ, true, false, List, [], ◌∷◌, 
 use Rattle.std.specs.List.{All}
 use Rattle.std.specs.List.Sorted.{IsPermutation}
 use Rattle.std.proofs.lemmas.List.Elements.{All-nil, All-push, All-contains, Contains-append_left, Contains-push}
-use Rattle.std.proofs.lemmas.List.Sorted.{IsPermutation-refl, IsPermutation-sym, IsPermutation-trans, IsPermutation-append_right, IsPermutation-middle, IsPermutation-append_comm}
+use Rattle.std.proofs.lemmas.List.Sorted.{IsPermutation-refl, IsPermutation-sym, IsPermutation-trans, IsPermutation-append_right, IsPermutation-middle}
+use Rattle.std.proofs.lemmas.List.Sorted.{IsPermutation-append_comm}
 use Rattle.traces.specs.View.{View}
 use Rattle.traces.proofs.Bools.{on_bool}
-use Rattle.exec_core.specs.Lives.{goes_on, AreSettledAfter}
-use Rattle.exec_core.specs.declared.lives.Live.{Live}
+use Rattle.exec_core.specs.Executions.{goes_on, AreSettledAfter}
+use Rattle.exec_core.specs.declared.execution.Execution.{Execution as Concrete}
 use Rattle.exec_core.proofs.Holding.{All-from_contains}
 
 pub All-front : {X : Type 0} (P : X → Type 0) (xs fore : List X) (x : X) → xs ≡ fore ++ x ∷ [] → All P xs → All P fore
@@ -18,16 +19,16 @@ All-last P xs fore x e a = All-contains P (fore ++ x ∷ []) x (subst (All P) e 
 
 module _ {M S W C : Type 0} (V : View M S W C) (m : M) (budget : ℕ) where
   -- of all these executions some are left, and the others were put behind those that stood in the two lists
-  pub record AreSettling (all rest lives_before lives ended_before ended : List (Live S)) : Type 0 where
-    pub live : List (Live S)
-    pub over : List (Live S)
+  pub record AreSettling (all rest lives_before lives ended_before ended : List (Concrete S)) : Type 0 where
+    pub live : List (Concrete S)
+    pub over : List (Concrete S)
     pub lives_are : lives ≡ lives_before ++ live
     pub ended_are : ended ≡ ended_before ++ over
     pub moved : IsPermutation all (rest ++ (live ++ over))
     pub all_live : All (λ l. goes_on V m budget l ≡ true) live
     pub all_over : All (λ l. goes_on V m budget l ≡ false) over
 
-  pub settling_none : (all lives ended : List (Live S)) → AreSettling all all lives lives ended ended
+  pub settling_none : (all lives ended : List (Concrete S)) → AreSettling all all lives lives ended ended
   settling_none all lives ended = record {
     live = [];
     over = [];
@@ -39,19 +40,20 @@ module _ {M S W C : Type 0} (V : View M S W C) (m : M) (budget : ℕ) where
   }
 
   -- the last one left is put into the front or the back of the settled ones
-  to_live : (fore live over : List (Live S)) (l : Live S) → IsPermutation ((fore ++ l ∷ []) ++ (live ++ over)) (fore ++ ((live ++ l ∷ []) ++ over))
+  to_live : (fore live over : List (Concrete S)) (l : Concrete S) → IsPermutation ((fore ++ l ∷ []) ++ (live ++ over)) (fore ++ ((live ++ l ∷ []) ++ over))
   to_live fore live over l =
       subst (λ xs. IsPermutation xs (fore ++ ((live ++ l ∷ []) ++ over))) (sym (append_assoc fore (l ∷ []) (live ++ over)))
       (IsPermutation-append_right fore (l ∷ (live ++ over)) ((live ++ l ∷ []) ++ over)
-      (subst (IsPermutation (l ∷ (live ++ over))) (sym (append_assoc live (l ∷ []) over)) (IsPermutation-sym (live ++ (l ∷ over)) (l ∷ (live ++ over)) (IsPermutation-middle live l over))))
+      (subst (IsPermutation (l ∷ (live ++ over))) (sym (append_assoc live (l ∷ []) over))
+      (IsPermutation-sym (live ++ (l ∷ over)) (l ∷ (live ++ over)) (IsPermutation-middle live l over))))
 
-  to_over : (fore live over : List (Live S)) (l : Live S) → IsPermutation ((fore ++ l ∷ []) ++ (live ++ over)) (fore ++ (live ++ (over ++ l ∷ [])))
+  to_over : (fore live over : List (Concrete S)) (l : Concrete S) → IsPermutation ((fore ++ l ∷ []) ++ (live ++ over)) (fore ++ (live ++ (over ++ l ∷ [])))
   to_over fore live over l =
       subst (λ xs. IsPermutation xs (fore ++ (live ++ (over ++ l ∷ [])))) (sym (append_assoc fore (l ∷ []) (live ++ over)))
       (IsPermutation-append_right fore (l ∷ (live ++ over)) (live ++ (over ++ l ∷ []))
       (subst (IsPermutation (l ∷ (live ++ over))) (append_assoc live over (l ∷ [])) (IsPermutation-append_comm (l ∷ []) (live ++ over))))
 
-  pub settling_more : (all rest fore lives_before lives lives_then ended_before ended ended_then : List (Live S)) (l : Live S)
+  pub settling_more : (all rest fore lives_before lives lives_then ended_before ended ended_then : List (Concrete S)) (l : Concrete S)
       → AreSettling all rest lives_before lives ended_before ended → rest ≡ fore ++ l ∷ []
       → (goes_on V m budget l ≡ true → (lives_then ≡ lives ++ l ∷ []) × (ended_then ≡ ended))
       → (goes_on V m budget l ≡ false → (lives_then ≡ lives) × (ended_then ≡ ended ++ l ∷ []))
@@ -78,7 +80,7 @@ module _ {M S W C : Type 0} (V : View M S W C) (m : M) (budget : ℕ) where
         all_over = All-push (λ x. goes_on V m budget x ≡ false) i.over l i.all_over n;
       })
 
-  pub settled : (all rest lives_before lives ended_before ended : List (Live S)) → AreSettling all rest lives_before lives ended_before ended → rest ≡ []
+  pub settled : (all rest lives_before lives ended_before ended : List (Concrete S)) → AreSettling all rest lives_before lives ended_before ended → rest ≡ []
       → AreSettledAfter V m budget all lives_before lives ended_before ended
   settled all rest lives_before lives ended_before ended i e = record {
     live = i.live;

@@ -1,5 +1,6 @@
 -- A list that is sorted is the list in order.
-use Rattle.std.proofs.Common.{◌≡◌, ℕ, suc, ◌<◌, ◌≤◌, true, false, Bool, nat_eq, ◌==◌, nat_cmp, List, [], ◌∷◌, map, get_or, slice_index, refl, sym, ap, ◌∙◌, subst, arith, ⊎_elim, cond, IsPermutation, Ordering}
+use Rattle.std.proofs.Common.{◌≡◌, ℕ, suc, ◌<◌, ◌≤◌, true, false, Bool, nat_eq, ◌==◌, nat_cmp, List, [], ◌∷◌, map, get_or, slice_index, refl, sym, ap, ◌∙◌}
+use Rattle.std.proofs.Common.{subst, arith, ⊎_elim, cond, IsPermutation, Ordering}
 use Rattle.std.specs.List.{AllPairs, Contains, count_by}
 use Rattle.std.specs.Ordering.{is_lt, ordering_then}
 use Rattle.std.specs.Fn.{ComputesKey, Called}
@@ -40,7 +41,8 @@ module _ {X : Type 0} (same : X → X → Bool) (sound : (x y : X) → same x y 
       (λ t. let a = count_yes (same x) y xs t in let b = count_yes (same x) y ys t in omega arith)
       (λ f. sym (count_no (same x) y xs f) ∙ h ∙ count_no (same x) y ys f)
 
-  pub sorted_same : (ys zs : List X) → AllPairs (λ a b. lt b a ≡ false) ys → AllPairs (λ a b. lt a b ≡ true) zs → ((x : X) → count_by (same x) ys ≡ count_by (same x) zs) → ys ≡ zs
+  pub sorted_same : (ys zs : List X) → AllPairs (λ a b. lt b a ≡ false) ys → AllPairs (λ a b. lt a b ≡ true) zs
+      → ((x : X) → count_by (same x) ys ≡ count_by (same x) zs) → ys ≡ zs
   sorted_same [] [] a b h = refl
   sorted_same [] (z ∷ zs) a b h = absurd (let n = count_yes (same z) z zs (complete z) in let m : 0 ≡ count_by (same z) (z ∷ zs) = h z in omega arith)
   sorted_same (y ∷ ys) [] a b h = absurd (let n = count_yes (same y) y ys (complete y) in let m : count_by (same y) (y ∷ ys) ≡ 0 = h y in omega arith)
@@ -78,7 +80,8 @@ earlier_before s t e = ⊎_elim
     subst (λ n. is_lt (pair_cmp (s.0, slice_index s.1 0) (n, slice_index t.1 0)) ≡ true) p (level s.0 (slice_index s.1 0) (slice_index t.1 0) (e.mutant p)))
     (cases_lt s.0 t.0)
 
-pub sorted_by_pairs : {X F : Type 0} {g : Mut F (Bor X × Unit {0}) (ℕ × ℕ)} {f : F} (n : X → ℕ × ℕ) (xs : List X) → ((key : X → ℕ × ℕ) → ComputesKey g key f → IsSortedByKey key pair_cmp xs)
+pub sorted_by_pairs : {X F : Type 0} {g : Mut F (Bor X × Unit {0}) (ℕ × ℕ)} {f : F} (n : X → ℕ × ℕ) (xs : List X)
+    → ((key : X → ℕ × ℕ) → ComputesKey g key f → IsSortedByKey key pair_cmp xs)
     → ((a : Bor X × Unit {0}) (r : ℕ × ℕ) (f' : F) → Called g f a r f' → (r ≡ n a.0.now) × (f' ≡ f)) → IsSortedByKey n pair_cmp xs
 sorted_by_pairs {g = g} {f = f} n xs up h = up n (always_returns_same g (λ a r. r ≡ n a.0.now) f h)
 
@@ -89,8 +92,11 @@ pub none_before : (xs : List Split) → IsSortedByKey key_of pair_cmp xs → All
 none_before xs up i j d h l =
     let n = length_map split_seen xs in
     let e : Split = record { step = d.0; parts = d.1 } in
-    let far = sorted_far (λ x y. is_lt (pair_cmp (key_of x) (key_of y))) (ranks_by (then_total (on_total (λ (x : ℕ × ℕ). x.0) nat_cmp_total) (on_total (λ (x : ℕ × ℕ). x.1) nat_cmp_total)) key_of) xs up i j e (omega arith) (omega arith) in
-    ap (λ s. before s (get_or (map split_seen xs) i d)) (get_or-map split_seen xs j e d (omega arith)) ∙ ap (before (split_seen (get_or xs j e))) (get_or-map split_seen xs i e d (omega arith)) ∙ far
+    let far = sorted_far (λ x y. is_lt (pair_cmp (key_of x) (key_of y)))
+    (ranks_by (then_total (on_total (λ (x : ℕ × ℕ). x.0) nat_cmp_total) (on_total (λ (x : ℕ × ℕ). x.1) nat_cmp_total)) key_of) xs up i j e (omega arith)
+    (omega arith) in
+    ap (λ s. before s (get_or (map split_seen xs) i d)) (get_or-map split_seen xs j e d (omega arith))
+    ∙ ap (before (split_seen (get_or xs j e))) (get_or-map split_seen xs i e d (omega arith)) ∙ far
 
 same_sound : (x y : ℕ × List ℕ) → same_split x y ≡ true → x ≡ y
 same_sound x y h =
@@ -100,8 +106,10 @@ same_sound x y h =
 same_complete : (x : ℕ × List ℕ) → same_split x x ≡ true
 same_complete x = and_from _ _ (eq-eqb x.0 x.0 refl) (lists_same nat_eq (λ k. eq-eqb k k refl) x.1)
 
-pub in_order_same : (xs ys : List Split) (ordered : List (ℕ × List ℕ)) → IsPermutation xs ys → IsPermutation (map split_seen xs) ordered → AllPairs IsEarlier ordered → IsSortedByKey key_of pair_cmp ys → map split_seen ys ≡ ordered
+pub in_order_same : (xs ys : List Split) (ordered : List (ℕ × List ℕ)) → IsPermutation xs ys → IsPermutation (map split_seen xs) ordered
+    → AllPairs IsEarlier ordered → IsSortedByKey key_of pair_cmp ys → map split_seen ys ≡ ordered
 in_order_same xs ys ordered p q o up =
-    sorted_same same_split same_sound same_complete before (map split_seen ys) ordered (none_before ys up) (λ i j d h l. earlier_before (get_or ordered i d) (get_or ordered j d) (o i j d h l))
+    sorted_same same_split same_sound same_complete before (map split_seen ys) ordered (none_before ys up)
+    (λ i j d h l. earlier_before (get_or ordered i d) (get_or ordered j d) (o i j d h l))
     (λ x. sum_by-IsPermutation (λ s. cond (same_split x s) 1 0) (map split_seen xs) (map split_seen ys) (IsPermutation-map split_seen xs ys p)
     ∙ sym (sum_by-IsPermutation (λ s. cond (same_split x s) 1 0) (map split_seen xs) ordered q))

@@ -1,35 +1,42 @@
 -- The executions through a turn.
-use Rattle.std.proofs.Common.{◌≡◌, ◌≢◌, ℕ, ◌<◌, true, false, not, ◌&&◌, nat_lt, List, [], ◌∷◌, ◌++◌, length, map, get_or, slice_get, Some, nat_eq, refl, sym, ap, ◌∙◌, subst, arith, append_assoc}
+use Rattle.std.proofs.Common.{◌≡◌, ◌≢◌, ℕ, ◌<◌, true, false, not, ◌&&◌, nat_lt, List, [], ◌∷◌, ◌++◌, length, map, get_or, slice_get, Some, nat_eq, refl, sym}
+use Rattle.std.proofs.Common.{ap, ◌∙◌, subst, arith, append_assoc}
 use Rattle.std.specs.Prelude.{Result, Ok, Err, OnErr}
 use Rattle.std.specs.List.{All, Contains, swap_remove}
 use Rattle.std.specs.List.Sorted.{IsPermutation}
 use Rattle.std.proofs.lemmas.Bool.{true≢false, eq-eqb, not-true, and_parts, ltb-true}
 use Rattle.std.proofs.lemmas.List.{map-append}
-use Rattle.std.proofs.lemmas.List.Elements.{All-append, All-cons, All-nil, All-head, All-tail, All-contains, All-from_recursion, Contains-append_left, Contains-append_right}
-use Rattle.std.proofs.lemmas.List.Sorted.{IsPermutation-refl, IsPermutation-sym, IsPermutation-trans, IsPermutation-map, IsPermutation-append_left, IsPermutation-append_right, IsPermutation-append_comm, IsPermutation-middle, IsPermutation-to_front, All-permutation, Contains-permutation, IsPermutation-swap_remove, length_permutation}
+use Rattle.std.proofs.lemmas.List.Elements.{All-append, All-cons, All-nil, All-head, All-tail, All-contains, All-from_recursion, Contains-append_left}
+use Rattle.std.proofs.lemmas.List.Elements.{Contains-append_right}
+use Rattle.std.proofs.lemmas.List.Sorted.{IsPermutation-refl, IsPermutation-sym, IsPermutation-trans, IsPermutation-map, IsPermutation-append_left}
+use Rattle.std.proofs.lemmas.List.Sorted.{IsPermutation-append_right, IsPermutation-append_comm, IsPermutation-middle, IsPermutation-to_front, All-permutation}
+use Rattle.std.proofs.lemmas.List.Sorted.{Contains-permutation, IsPermutation-swap_remove, length_permutation}
 use Rattle.std.proofs.lemmas.Option.{slice_get_read}
 use Rattle.std.proofs.lemmas.Map.Keys.{IsDistinct-head, IsDistinct-IsPermutation}
 use Rattle.traces.specs.View.{View, IsLawful, Keeps}
 use Rattle.traces.proofs.Permutations.{cancel_front}
 use Rattle.traces.proofs.Lists.{contains_here}
 use Rattle.traces.proofs.Steps.{length_map}
-use Rattle.exec_core.specs.Lives.{execution_of, live_numbers, goes_on, IsLiveBack, AreSettledAfter}
+use Rattle.exec_core.specs.Executions.{execution_of, state_numbers, goes_on, IsExecutionBack, AreSettledAfter}
 use Rattle.exec_core.specs.Divided.{child_of, Divided}
 use Rattle.exec_core.specs.Turned.{executions_of, IsHeld, Advanced}
-use Rattle.exec_core.specs.declared.lives.Live.{Live}
+use Rattle.exec_core.specs.declared.execution.Execution.{Execution as Concrete}
 use Rattle.exec_machine.proofs.Numbers.{flips}
 use Rattle.exec_core.proofs.Holding.{single, nowhere, keeps_none, keeps_more, All-from_contains}
-use Rattle.exec_core.proofs.PieceLemmas.{map_where, contains_map}
+use Rattle.exec_core.proofs.ChildLemmas.{map_where, contains_map}
 
 module _ {M S W C : Type 0} (V : View M S W C) where
-  pub as_many_made : (a c : M) (e : Live S) (plans : List (List ℕ × C)) (before after : List (Live S)) → before ≡ [] → Divided V a e c plans before after → length after ≡ length plans
+  pub as_many_made : (a c : M) (e : Concrete S) (plans : List (List ℕ × C)) (before after : List (Concrete S)) → before ≡ []
+      → Divided V a e c plans before after → length after ≡ length plans
   as_many_made a c e plans before after none d =
       let n = length_permutation (map (child_of V a e) plans) (map (execution_of V c) d.made) d.seen in
       let i = length_map (child_of V a e) plans in let j = length_map (execution_of V c) d.made in
       let k = ap length d.added in let l = ap (λ xs. length (xs ++ d.made)) none in omega arith
 
-  pub advanced : (a c : M) (budget : ℕ) (e : Live S) (plans : List (List ℕ × C)) (before made lives_before lives ended_before ended : List (Live S)) → before ≡ []
-      → Divided V a e c plans before made → AreSettledAfter V c budget made lives_before lives ended_before ended → Advanced V a c budget e plans lives_before lives ended_before ended
+  pub advanced : (a c : M) (budget : ℕ) (e : Concrete S) (plans : List (List ℕ × C)) (before made lives_before lives ended_before ended : List (Concrete S))
+      → before ≡ []
+      → Divided V a e c plans before made → AreSettledAfter V c budget made lives_before lives ended_before ended
+      → Advanced V a c budget e plans lives_before lives ended_before ended
   advanced a c budget e plans before made lives_before lives ended_before ended none d s =
       let same : made ≡ d.made = d.added ∙ ap (λ xs. xs ++ d.made) none in
       let moved : IsPermutation d.made (s.live ++ s.over) = subst (λ xs. IsPermutation xs (s.live ++ s.over)) same s.settled.moved in
@@ -43,15 +50,18 @@ module _ {M S W C : Type 0} (V : View M S W C) where
         out = All-permutation (λ l. V.is_out c l.state) d.made (s.live ++ s.over) moved d.out;
         seen = IsPermutation-trans (map (child_of V a e) plans) (map (execution_of V c) d.made) (map (execution_of V c) (s.live ++ s.over)) d.seen
             (IsPermutation-map (execution_of V c) d.made (s.live ++ s.over) moved);
-        numbers = IsPermutation-trans (live_numbers V (s.live ++ s.over) ++ V.out_numbers a) (live_numbers V d.made ++ V.out_numbers a) (V.number e.state ∷ V.out_numbers c)
-            (IsPermutation-append_left (V.out_numbers a) (live_numbers V (s.live ++ s.over)) (live_numbers V d.made)
-            (IsPermutation-sym (live_numbers V d.made) (live_numbers V (s.live ++ s.over)) (IsPermutation-map (λ l. V.number l.state) d.made (s.live ++ s.over) moved)))
+        numbers = IsPermutation-trans (state_numbers V (s.live ++ s.over) ++ V.out_numbers a) (state_numbers V d.made ++ V.out_numbers a) (V.number e.state
+            ∷ V.out_numbers c)
+            (IsPermutation-append_left (V.out_numbers a) (state_numbers V (s.live ++ s.over)) (state_numbers V d.made)
+            (IsPermutation-sym (state_numbers V d.made) (state_numbers V (s.live ++ s.over))
+            (IsPermutation-map (λ l. V.number l.state) d.made (s.live ++ s.over) moved)))
             d.numbers;
         keeps = d.keeps;
       }
 
   -- what was advanced from a moment on at which the state stood for the same
-  pub advanced_before : (lawful : IsLawful V) (a b c : M) (budget : ℕ) (e : Live S) (plans : List (List ℕ × C)) (lives_before lives ended_before ended : List (Live S))
+  pub advanced_before : (lawful : IsLawful V) (a b c : M) (budget : ℕ) (e : Concrete S) (plans : List (List ℕ × C))
+      (lives_before lives ended_before ended : List (Concrete S))
       → Keeps V a b [] → V.out_numbers b ≡ V.out_numbers a → V.is_out a e.state
       → Advanced V b c budget e plans lives_before lives ended_before ended → Advanced V a c budget e plans lives_before lives ended_before ended
   advanced_before lawful a b c budget e plans lives_before lives ended_before ended k n o d =
@@ -63,8 +73,9 @@ module _ {M S W C : Type 0} (V : View M S W C) where
         all_live = d.all_live;
         all_over = d.all_over;
         out = d.out;
-        seen = subst (λ xs. IsPermutation xs (map (execution_of V c) (d.live ++ d.over))) (map_where (child_of V b e) (child_of V a e) plans (λ x i. cc)) d.seen;
-        numbers = subst (λ xs. IsPermutation (live_numbers V (d.live ++ d.over) ++ xs) (V.number e.state ∷ V.out_numbers c)) n d.numbers;
+        seen = subst (λ xs. IsPermutation xs (map (execution_of V c) (d.live ++ d.over)))
+            (map_where (child_of V b e) (child_of V a e) plans (λ x i. cc)) d.seen;
+        numbers = subst (λ xs. IsPermutation (state_numbers V (d.live ++ d.over) ++ xs) (V.number e.state ∷ V.out_numbers c)) n d.numbers;
         keeps = keeps_more V lawful a b c [] (V.number e.state ∷ []) (V.number e.state ∷ []) (λ j h. absurd (nowhere j h)) (λ j h. h) k d.keeps;
       }
 
@@ -78,22 +89,25 @@ grown xs ys us vs =
     (subst (IsPermutation ((ys ++ us) ++ vs)) (append_assoc us ys vs)
     (IsPermutation-append_left vs (ys ++ us) (us ++ ys) (IsPermutation-append_comm ys us))))))
 
-module _ {M S W C : Type 0} (V : View M S W C) (lawful : IsLawful V) (a : M) (budget : ℕ) (numbers : List ℕ) (lives ended : List (Live S)) (h : IsHeld V a budget numbers lives ended)
-    (e : Live S) (others : List (Live S)) (p : IsPermutation lives (e ∷ others)) where
+module _ {M S W C : Type 0} (V : View M S W C) (lawful : IsLawful V) (a : M) (budget : ℕ) (numbers : List ℕ) (lives ended : List (Concrete S))
+    (h : IsHeld V a budget numbers lives ended)
+    (e : Concrete S) (others : List (Concrete S)) (p : IsPermutation lives (e ∷ others)) where
   all_moved : IsPermutation (lives ++ ended) (e ∷ (others ++ ended))
   all_moved = IsPermutation-append_left ended lives (e ∷ others) p
 
-  numbers_moved : IsPermutation (V.out_numbers a) (V.number e.state ∷ (live_numbers V (others ++ ended) ++ numbers))
-  numbers_moved = IsPermutation-trans (V.out_numbers a) (live_numbers V (lives ++ ended) ++ numbers) (V.number e.state ∷ (live_numbers V (others ++ ended) ++ numbers)) h.numbers
-      (IsPermutation-append_left numbers (live_numbers V (lives ++ ended)) (live_numbers V (e ∷ (others ++ ended))) (IsPermutation-map (λ l. V.number l.state) (lives ++ ended) (e ∷ (others ++ ended)) all_moved))
+  numbers_moved : IsPermutation (V.out_numbers a) (V.number e.state ∷ (state_numbers V (others ++ ended) ++ numbers))
+  numbers_moved = IsPermutation-trans (V.out_numbers a) (state_numbers V (lives ++ ended) ++ numbers) (V.number e.state
+      ∷ (state_numbers V (others ++ ended) ++ numbers)) h.numbers
+      (IsPermutation-append_left numbers (state_numbers V (lives ++ ended)) (state_numbers V (e ∷ (others ++ ended)))
+      (IsPermutation-map (λ l. V.number l.state) (lives ++ ended) (e ∷ (others ++ ended)) all_moved))
 
-  apart : (l : Live S) → Contains (others ++ ended) l → V.number e.state ≢ V.number l.state
+  apart : (l : Concrete S) → Contains (others ++ ended) l → V.number e.state ≢ V.number l.state
   apart l c s =
       let d = IsDistinct-IsPermutation nat_eq flips (V.out_numbers a) _ numbers_moved (lawful.distinct a) in
-      let ns = live_numbers V (others ++ ended) ++ numbers in
+      let ns = state_numbers V (others ++ ended) ++ numbers in
       true≢false (sym (eq-eqb _ _ s) ∙ All-contains (λ y. nat_eq (V.number e.state) y ≡ false) ns (V.number l.state)
       (All-from_recursion (λ y. nat_eq (V.number e.state) y ≡ false) ns (IsDistinct-head nat_eq (V.number e.state) ns d))
-      (Contains-append_left (live_numbers V (others ++ ended)) numbers (V.number l.state) (contains_map (λ y. V.number y.state) (others ++ ended) l c)))
+      (Contains-append_left (state_numbers V (others ++ ended)) numbers (V.number l.state) (contains_map (λ y. V.number y.state) (others ++ ended) l c)))
 
   moved_out : All (λ l. V.is_out a l.state) (e ∷ (others ++ ended))
   moved_out = All-permutation (λ l. V.is_out a l.state) (lives ++ ended) (e ∷ (others ++ ended)) all_moved h.out
@@ -110,7 +124,7 @@ module _ {M S W C : Type 0} (V : View M S W C) (lawful : IsLawful V) (a : M) (bu
   pub e_below : e.step < budget
   e_below = ltb-true _ _ (and_parts (not ((V.meanings a).ended (V.stands a e.state))) (nat_lt e.step budget) e_goes_on).1
 
-  others_out : (l : Live S) → Contains (others ++ ended) l → V.is_out a l.state
+  others_out : (l : Concrete S) → Contains (others ++ ended) l → V.is_out a l.state
   others_out l c = All-contains (λ x. V.is_out a x.state) (others ++ ended) l (All-tail (λ x. V.is_out a x.state) e (others ++ ended) moved_out) c
 
   pub was_moved : IsPermutation (executions_of V a lives ended) (execution_of V a e ∷ executions_of V a others ended)
@@ -118,10 +132,10 @@ module _ {M S W C : Type 0} (V : View M S W C) (lawful : IsLawful V) (a : M) (bu
 
   -- the others are as they were
   module _ (c : M) (k : Keeps V a c (V.number e.state ∷ [])) where
-    untouched : (l : Live S) → Contains (others ++ ended) l → Contains (V.number e.state ∷ []) (V.number l.state) → ⊥
+    untouched : (l : Concrete S) → Contains (others ++ ended) l → Contains (V.number e.state ∷ []) (V.number l.state) → ⊥
     untouched l i t = apart l i (single t)
 
-    stands_kept : (l : Live S) → Contains (others ++ ended) l → V.stands c l.state ≡ V.stands a l.state
+    stands_kept : (l : Concrete S) → Contains (others ++ ended) l → V.stands c l.state ≡ V.stands a l.state
     stands_kept l i = k.stands l.state (others_out l i) (untouched l i)
 
     kept_out : All (λ l. V.is_out c l.state) (others ++ ended)
@@ -130,49 +144,61 @@ module _ {M S W C : Type 0} (V : View M S W C) (lawful : IsLawful V) (a : M) (bu
     kept_seen : executions_of V c others ended ≡ executions_of V a others ended
     kept_seen = map_where (execution_of V c) (execution_of V a) (others ++ ended) (λ l i. let s = stands_kept l i in cc)
 
-    goes_on_kept : (l : Live S) → Contains (others ++ ended) l → goes_on V c budget l ≡ goes_on V a budget l
-    goes_on_kept l i = ap (λ A. not (A.ended (V.stands c l.state)) && nat_lt l.step budget) k.meanings ∙ ap (λ w. not ((V.meanings a).ended w) && nat_lt l.step budget) (stands_kept l i)
+    goes_on_kept : (l : Concrete S) → Contains (others ++ ended) l → goes_on V c budget l ≡ goes_on V a budget l
+    goes_on_kept l i = ap (λ A. not (A.ended (V.stands c l.state)) && nat_lt l.step budget) k.meanings
+        ∙ ap (λ w. not ((V.meanings a).ended w) && nat_lt l.step budget) (stands_kept l i)
 
     kept_live : All (λ l. goes_on V c budget l ≡ true) others
     kept_live = All-from_contains (λ l. goes_on V c budget l ≡ true) others (λ l i. goes_on_kept l (Contains-append_left others ended l i)
-        ∙ All-contains (λ x. goes_on V a budget x ≡ true) others l (All-tail (λ x. goes_on V a budget x ≡ true) e others (All-permutation (λ x. goes_on V a budget x ≡ true) lives (e ∷ others) p h.live)) i)
+        ∙ All-contains (λ x. goes_on V a budget x ≡ true) others l (All-tail (λ x. goes_on V a budget x ≡ true) e others
+        (All-permutation (λ x. goes_on V a budget x ≡ true) lives (e ∷ others) p h.live)) i)
 
     kept_over : All (λ l. goes_on V c budget l ≡ false) ended
-    kept_over = All-from_contains (λ l. goes_on V c budget l ≡ false) ended (λ l i. goes_on_kept l (Contains-append_right others ended l i) ∙ All-contains (λ x. goes_on V a budget x ≡ false) ended l h.over i)
+    kept_over = All-from_contains (λ l. goes_on V c budget l ≡ false) ended (λ l i. goes_on_kept l (Contains-append_right others ended l i)
+        ∙ All-contains (λ x. goes_on V a budget x ≡ false) ended l h.over i)
 
     -- the execution came back
-    module _ (back : Live S) (b : IsLiveBack V a c e back) where
-      back_moved : {X : Type 0} (f : Live S → X) → IsPermutation (f back ∷ map f (others ++ ended)) (map f ((others ++ back ∷ []) ++ ended))
+    module _ (back : Concrete S) (b : IsExecutionBack V a c e back) where
+      back_moved : {X : Type 0} (f : Concrete S → X) → IsPermutation (f back ∷ map f (others ++ ended)) (map f ((others ++ back ∷ []) ++ ended))
       back_moved f = IsPermutation-map f (back ∷ (others ++ ended)) ((others ++ back ∷ []) ++ ended)
-          (IsPermutation-append_left ended (back ∷ others) (others ++ back ∷ []) (IsPermutation-sym (others ++ back ∷ []) (back ∷ others) (IsPermutation-to_front others back)))
+          (IsPermutation-append_left ended (back ∷ others) (others ++ back ∷ [])
+          (IsPermutation-sym (others ++ back ∷ []) (back ∷ others) (IsPermutation-to_front others back)))
 
       back_seen : execution_of V c back ≡ execution_of V a e
       back_seen = let s = b.step in let m = b.members in let w = b.state.stands in cc
 
       pub same_executions : IsPermutation (executions_of V a lives ended) (executions_of V c (others ++ back ∷ []) ended)
-      same_executions = IsPermutation-trans (executions_of V a lives ended) (execution_of V a e ∷ executions_of V a others ended) (executions_of V c (others ++ back ∷ []) ended) was_moved
+      same_executions = IsPermutation-trans (executions_of V a lives ended) (execution_of V a e ∷ executions_of V a others ended)
+          (executions_of V c (others ++ back ∷ []) ended) was_moved
           (subst (λ x. IsPermutation (x ∷ executions_of V a others ended) (executions_of V c (others ++ back ∷ []) ended)) back_seen
           (subst (λ xs. IsPermutation (execution_of V c back ∷ xs) (executions_of V c (others ++ back ∷ []) ended)) kept_seen (back_moved (execution_of V c))))
 
       back_goes_on : goes_on V c budget back ≡ true
-      back_goes_on = ap (λ A. not (A.ended (V.stands c back.state)) && nat_lt back.step budget) k.meanings ∙ ap (λ w. not ((V.meanings a).ended w) && nat_lt back.step budget) b.state.stands
+      back_goes_on = ap (λ A. not (A.ended (V.stands c back.state)) && nat_lt back.step budget) k.meanings
+          ∙ ap (λ w. not ((V.meanings a).ended w) && nat_lt back.step budget) b.state.stands
           ∙ ap (λ n. not ((V.meanings a).ended (V.stands a e.state)) && nat_lt n budget) b.step ∙ e_goes_on
 
       pub held_back : IsHeld V c budget numbers (others ++ back ∷ []) ended
       held_back = record {
         out = All-permutation (λ l. V.is_out c l.state) (back ∷ (others ++ ended)) ((others ++ back ∷ []) ++ ended)
-            (IsPermutation-append_left ended (back ∷ others) (others ++ back ∷ []) (IsPermutation-sym (others ++ back ∷ []) (back ∷ others) (IsPermutation-to_front others back)))
+            (IsPermutation-append_left ended (back ∷ others) (others ++ back ∷ [])
+            (IsPermutation-sym (others ++ back ∷ []) (back ∷ others) (IsPermutation-to_front others back)))
             (All-cons (λ l. V.is_out c l.state) back (others ++ ended) b.state.out kept_out);
-        numbers = IsPermutation-trans (V.out_numbers c) (V.out_numbers a) (live_numbers V ((others ++ back ∷ []) ++ ended) ++ numbers) (IsPermutation-sym _ _ b.state.numbers)
-            (IsPermutation-trans (V.out_numbers a) (V.number e.state ∷ (live_numbers V (others ++ ended) ++ numbers)) (live_numbers V ((others ++ back ∷ []) ++ ended) ++ numbers) numbers_moved
-            (IsPermutation-append_left numbers (V.number e.state ∷ live_numbers V (others ++ ended)) (live_numbers V ((others ++ back ∷ []) ++ ended))
-            (subst (λ n. IsPermutation (n ∷ live_numbers V (others ++ ended)) (live_numbers V ((others ++ back ∷ []) ++ ended))) b.state.number (back_moved (λ l. V.number l.state)))));
-        live = All-append (λ l. goes_on V c budget l ≡ true) others (back ∷ []) kept_live (All-cons (λ l. goes_on V c budget l ≡ true) back [] back_goes_on (All-nil (λ l. goes_on V c budget l ≡ true)));
+        numbers = IsPermutation-trans (V.out_numbers c) (V.out_numbers a) (state_numbers V ((others ++ back ∷ []) ++ ended) ++ numbers)
+            (IsPermutation-sym _ _ b.state.numbers)
+            (IsPermutation-trans (V.out_numbers a) (V.number e.state ∷ (state_numbers V (others ++ ended) ++ numbers))
+            (state_numbers V ((others ++ back ∷ []) ++ ended) ++ numbers) numbers_moved
+            (IsPermutation-append_left numbers (V.number e.state ∷ state_numbers V (others ++ ended)) (state_numbers V ((others ++ back ∷ []) ++ ended))
+            (subst (λ n. IsPermutation (n ∷ state_numbers V (others ++ ended)) (state_numbers V ((others ++ back ∷ []) ++ ended))) b.state.number
+            (back_moved (λ l. V.number l.state)))));
+        live = All-append (λ l. goes_on V c budget l ≡ true) others (back ∷ []) kept_live
+            (All-cons (λ l. goes_on V c budget l ≡ true) back [] back_goes_on (All-nil (λ l. goes_on V c budget l ≡ true)));
         over = kept_over;
       }
 
   -- the execution was divided
-  module _ (c : M) (plans : List (List ℕ × C)) (lives_after ended_after : List (Live S)) (d : Advanced V a c budget e plans others lives_after ended ended_after) where
+  module _ (c : M) (plans : List (List ℕ × C)) (lives_after ended_after : List (Concrete S))
+      (d : Advanced V a c budget e plans others lives_after ended ended_after) where
     after_are : executions_of V c lives_after ended_after ≡ executions_of V c (others ++ d.live) (ended ++ d.over)
     after_are = ap (λ xs. executions_of V c xs ended_after) d.lives_are ∙ ap (executions_of V c (others ++ d.live)) d.ended_are
 
@@ -182,37 +208,48 @@ module _ {M S W C : Type 0} (V : View M S W C) (lawful : IsLawful V) (a : M) (bu
     pub turned_executions : IsPermutation (executions_of V a others ended ++ map (child_of V a e) plans) (executions_of V c lives_after ended_after)
     turned_executions =
         subst (IsPermutation (executions_of V a others ended ++ map (child_of V a e) plans)) (sym after_are)
-        (IsPermutation-trans (executions_of V a others ended ++ map (child_of V a e) plans) (executions_of V a others ended ++ map (execution_of V c) (d.live ++ d.over)) (executions_of V c (others ++ d.live) (ended ++ d.over))
+        (IsPermutation-trans (executions_of V a others ended ++ map (child_of V a e) plans) (executions_of V a others ended
+        ++ map (execution_of V c) (d.live ++ d.over)) (executions_of V c (others ++ d.live) (ended ++ d.over))
         (IsPermutation-append_right (executions_of V a others ended) (map (child_of V a e) plans) (map (execution_of V c) (d.live ++ d.over)) d.seen)
-        (subst (λ xs. IsPermutation (xs ++ map (execution_of V c) (d.live ++ d.over)) (executions_of V c (others ++ d.live) (ended ++ d.over))) (kept_seen c d.keeps)
-        (subst (λ xs. IsPermutation xs (executions_of V c (others ++ d.live) (ended ++ d.over))) (map-append (execution_of V c) (others ++ ended) (d.live ++ d.over))
+        (subst (λ xs. IsPermutation (xs ++ map (execution_of V c) (d.live ++ d.over)) (executions_of V c (others ++ d.live) (ended ++ d.over)))
+        (kept_seen c d.keeps)
+        (subst (λ xs. IsPermutation xs (executions_of V c (others ++ d.live) (ended ++ d.over)))
+        (map-append (execution_of V c) (others ++ ended) (d.live ++ d.over))
         (IsPermutation-map (execution_of V c) ((others ++ ended) ++ (d.live ++ d.over)) ((others ++ d.live) ++ (ended ++ d.over)) both))))
 
-    new_numbers : IsPermutation (V.out_numbers c) (live_numbers V (d.live ++ d.over) ++ (live_numbers V (others ++ ended) ++ numbers))
+    new_numbers : IsPermutation (V.out_numbers c) (state_numbers V (d.live ++ d.over) ++ (state_numbers V (others ++ ended) ++ numbers))
     new_numbers =
-        let made = live_numbers V (d.live ++ d.over) in let n = V.number e.state in let rest = live_numbers V (others ++ ended) ++ numbers in
+        let made = state_numbers V (d.live ++ d.over) in let n = V.number e.state in let rest = state_numbers V (others ++ ended) ++ numbers in
         cancel_front (n ∷ []) (V.out_numbers c) (made ++ rest)
-        (IsPermutation-trans (n ∷ V.out_numbers c) (made ++ V.out_numbers a) (n ∷ (made ++ rest)) (IsPermutation-sym (made ++ V.out_numbers a) (n ∷ V.out_numbers c) d.numbers)
+        (IsPermutation-trans (n ∷ V.out_numbers c) (made ++ V.out_numbers a) (n ∷ (made ++ rest))
+        (IsPermutation-sym (made ++ V.out_numbers a) (n ∷ V.out_numbers c) d.numbers)
         (IsPermutation-trans (made ++ V.out_numbers a) (made ++ n ∷ rest) (n ∷ (made ++ rest))
         (IsPermutation-append_right made (V.out_numbers a) (n ∷ rest) numbers_moved) (IsPermutation-middle made n rest)))
 
     pub held_on : IsHeld V c budget numbers lives_after ended_after
-    held_on = subst (λ xs. IsHeld V c budget numbers xs ended_after) (sym d.lives_are) (subst (IsHeld V c budget numbers (others ++ d.live)) (sym d.ended_are) (record {
-      out = All-permutation (λ l. V.is_out c l.state) ((others ++ ended) ++ (d.live ++ d.over)) ((others ++ d.live) ++ (ended ++ d.over)) both
-          (All-append (λ l. V.is_out c l.state) (others ++ ended) (d.live ++ d.over) (kept_out c d.keeps) d.out);
-      numbers = IsPermutation-trans (V.out_numbers c) (live_numbers V (d.live ++ d.over) ++ (live_numbers V (others ++ ended) ++ numbers)) (live_numbers V ((others ++ d.live) ++ (ended ++ d.over)) ++ numbers) new_numbers
-          (subst (λ xs. IsPermutation xs (live_numbers V ((others ++ d.live) ++ (ended ++ d.over)) ++ numbers)) (append_assoc (live_numbers V (d.live ++ d.over)) (live_numbers V (others ++ ended)) numbers)
-          (IsPermutation-append_left numbers (live_numbers V (d.live ++ d.over) ++ live_numbers V (others ++ ended)) (live_numbers V ((others ++ d.live) ++ (ended ++ d.over)))
-          (IsPermutation-trans (live_numbers V (d.live ++ d.over) ++ live_numbers V (others ++ ended)) (live_numbers V (others ++ ended) ++ live_numbers V (d.live ++ d.over)) (live_numbers V ((others ++ d.live) ++ (ended ++ d.over)))
-          (IsPermutation-append_comm (live_numbers V (d.live ++ d.over)) (live_numbers V (others ++ ended)))
-          (subst (λ xs. IsPermutation xs (live_numbers V ((others ++ d.live) ++ (ended ++ d.over)))) (map-append (λ l. V.number l.state) (others ++ ended) (d.live ++ d.over))
-          (IsPermutation-map (λ l. V.number l.state) ((others ++ ended) ++ (d.live ++ d.over)) ((others ++ d.live) ++ (ended ++ d.over)) both)))));
-      live = All-append (λ l. goes_on V c budget l ≡ true) others d.live (kept_live c d.keeps) d.all_live;
-      over = All-append (λ l. goes_on V c budget l ≡ false) ended d.over (kept_over c d.keeps) d.all_over;
-    }))
+    held_on = subst (λ xs. IsHeld V c budget numbers xs ended_after) (sym d.lives_are)
+        (subst (IsHeld V c budget numbers (others ++ d.live)) (sym d.ended_are) (record {
+          out = All-permutation (λ l. V.is_out c l.state) ((others ++ ended) ++ (d.live ++ d.over)) ((others ++ d.live) ++ (ended ++ d.over)) both
+              (All-append (λ l. V.is_out c l.state) (others ++ ended) (d.live ++ d.over) (kept_out c d.keeps) d.out);
+          numbers = IsPermutation-trans (V.out_numbers c) (state_numbers V (d.live ++ d.over) ++ (state_numbers V (others ++ ended) ++ numbers))
+              (state_numbers V ((others ++ d.live) ++ (ended ++ d.over)) ++ numbers) new_numbers
+              (subst (λ xs. IsPermutation xs (state_numbers V ((others ++ d.live) ++ (ended ++ d.over)) ++ numbers))
+              (append_assoc (state_numbers V (d.live ++ d.over)) (state_numbers V (others ++ ended)) numbers)
+              (IsPermutation-append_left numbers (state_numbers V (d.live ++ d.over) ++ state_numbers V (others ++ ended))
+              (state_numbers V ((others ++ d.live) ++ (ended ++ d.over)))
+              (IsPermutation-trans (state_numbers V (d.live ++ d.over) ++ state_numbers V (others ++ ended)) (state_numbers V (others ++ ended)
+              ++ state_numbers V (d.live ++ d.over)) (state_numbers V ((others ++ d.live) ++ (ended ++ d.over)))
+              (IsPermutation-append_comm (state_numbers V (d.live ++ d.over)) (state_numbers V (others ++ ended)))
+              (subst (λ xs. IsPermutation xs (state_numbers V ((others ++ d.live) ++ (ended ++ d.over))))
+              (map-append (λ l. V.number l.state) (others ++ ended) (d.live ++ d.over))
+              (IsPermutation-map (λ l. V.number l.state) ((others ++ ended) ++ (d.live ++ d.over)) ((others ++ d.live) ++ (ended ++ d.over)) both)))));
+          live = All-append (λ l. goes_on V c budget l ≡ true) others d.live (kept_live c d.keeps) d.all_live;
+          over = All-append (λ l. goes_on V c budget l ≡ false) ended d.over (kept_over c d.keeps) d.all_over;
+        }))
 
 -- an execution that stayed out has come back
-pub stayed : {M S W C : Type 0} (V : View M S W C) (lawful : IsLawful V) (a b : M) (e : Live S) → Keeps V a b [] → V.out_numbers b ≡ V.out_numbers a → V.is_out a e.state → IsLiveBack V a b e e
+pub stayed : {M S W C : Type 0} (V : View M S W C) (lawful : IsLawful V) (a b : M) (e : Concrete S) → Keeps V a b [] → V.out_numbers b ≡ V.out_numbers a
+    → V.is_out a e.state → IsExecutionBack V a b e e
 stayed V lawful a b e k n o = record {
   step = refl;
   members = refl;
@@ -225,7 +262,8 @@ stayed V lawful a b e k n o = record {
   };
 }
 
-pub back_before : {M S W C : Type 0} (V : View M S W C) (lawful : IsLawful V) (a b c : M) (e back : Live S) → Keeps V a b [] → V.out_numbers b ≡ V.out_numbers a → V.is_out a e.state → IsLiveBack V b c e back → IsLiveBack V a c e back
+pub back_before : {M S W C : Type 0} (V : View M S W C) (lawful : IsLawful V) (a b c : M) (e back : Concrete S) → Keeps V a b []
+    → V.out_numbers b ≡ V.out_numbers a → V.is_out a e.state → IsExecutionBack V b c e back → IsExecutionBack V a c e back
 back_before V lawful a b c e back k n o i = record {
   step = i.step;
   members = i.members;
@@ -239,18 +277,21 @@ back_before V lawful a b c e back k n o i = record {
 }
 
 -- what touches the state of one execution touches those of all
-pub keeps_all : {M S W C : Type 0} (V : View M S W C) (a c : M) (e : Live S) (all others : List (Live S)) → IsPermutation all (e ∷ others) → Keeps V a c (V.number e.state ∷ []) → Keeps V a c (live_numbers V all)
+pub keeps_all : {M S W C : Type 0} (V : View M S W C) (a c : M) (e : Concrete S) (all others : List (Concrete S)) → IsPermutation all (e ∷ others)
+    → Keeps V a c (V.number e.state ∷ []) → Keeps V a c (state_numbers V all)
 keeps_all V a c e all others p k =
-    let there : Contains (live_numbers V all) (V.number e.state) = contains_map (λ l. V.number l.state) all e (Contains-permutation (e ∷ others) all e (IsPermutation-sym all (e ∷ others) p) (contains_here e others)) in
+    let there : Contains (state_numbers V all) (V.number e.state) = contains_map (λ l. V.number l.state) all e
+    (Contains-permutation (e ∷ others) all e (IsPermutation-sym all (e ∷ others) p) (contains_here e others)) in
     record {
       meanings = k.meanings;
       stays = k.stays;
-      out = λ t i ne. k.out t i (λ h. ne (subst (Contains (live_numbers V all)) (single h) there));
-      stands = λ t i ne. k.stands t i (λ h. ne (subst (Contains (live_numbers V all)) (single h) there));
+      out = λ t i ne. k.out t i (λ h. ne (subst (Contains (state_numbers V all)) (single h) there));
+      stands = λ t i ne. k.stands t i (λ h. ne (subst (Contains (state_numbers V all)) (single h) there));
     }
 
 -- the element that was taken out
-pub taken_out : {X : Type 0} (xs rest : List X) (at : ℕ) (x : X) → at < length xs → x ≡ get_or xs at x → rest ≡ swap_remove xs at x → IsPermutation xs (x ∷ rest)
+pub taken_out : {X : Type 0} (xs rest : List X) (at : ℕ) (x : X) → at < length xs → x ≡ get_or xs at x → rest ≡ swap_remove xs at x
+    → IsPermutation xs (x ∷ rest)
 taken_out xs rest at x l e r = subst (λ ys. IsPermutation xs (x ∷ ys)) (sym r) (IsPermutation-swap_remove xs at x l e)
 
 pub at_index : {X : Type 0} (xs : List X) (at : ℕ) (x : X) → at < length xs → x ≡ get_or xs at x → slice_get xs at ≡ Some x

@@ -22,10 +22,10 @@ use Rattle.traces.specs.Ends.{IsEnd}
 use Rattle.exec_core.specs.Engines.{split_seen}
 use Rattle.exec_core.specs.Turned.{executions_of, IsHeld}
 use Rattle.exec_core.specs.declared.engine.Engine.{Engine}
-use Rattle.exec_core.specs.declared.lives.Live.{Live}
+use Rattle.exec_core.specs.declared.execution.Execution.{Execution as Concrete}
 use Rattle.exec_core.specs.declared.result.Class.{Class}
 
-abbrev pub class_from : {S : Type 0} → Live S → Class S
+abbrev pub class_from : {S : Type 0} → Concrete S → Class S
 class_from l = record { state = l.state; members = l.members; length = l.step }
 
 module _ {M S W C : Type 0} (V : View M S W C) where

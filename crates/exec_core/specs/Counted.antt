@@ -3,7 +3,7 @@
 --     counts_so_far es          the counts of the changes that the members of these executions have made
 --     counts_of_turn e          the counts of one turn of e: a try for each different variant, and a change for each part
 --     tries_of_turn e           the counts of its tries alone
-use Rattle.std.specs.Prelude.{◌≡◌, ℕ, ◌+◌, ◌≤◌, List, length}
+use Rattle.std.specs.Prelude.{ℕ, List, length}
 use Rattle.std.specs.List.{filter, sum_by}
 use Rattle.traces.specs.Meanings.{total_toll}
 use Rattle.traces.specs.Counts.{Counts, counts_of_tries}

@@ -1,7 +1,7 @@
-pub mod Pieces
+pub mod Children
 pub mod Plans
 pub mod Held
-pub mod Lives
+pub mod Executions
 pub mod Divided
 pub mod ClassTable
 pub mod Counted

@@ -1,10 +1,12 @@
 -- The order of turns.
 --     offer_of l             what a picker sees of an execution
 --     AreOffered             the executions are in order of least member, and a picker sees these offers of them
+--     IsReplaced             the execution at an index left the list, the last one took its place, and others were put behind
 --     IsArranged             the live executions are in order of least member, and nothing else changed
 --     Took                   of the offers of all live executions a picker chose an index, and the execution there took its turn
 --     HasRefused             the turn of some execution was refused
-use Rattle.std.specs.Prelude.{◌≡◌, ℕ, List, length, map, slice_index}
+use Rattle.std.specs.Prelude.{◌≡◌, ℕ, List, ◌++◌, length, map, slice_index}
+use Rattle.std.specs.List.{swap_remove}
 use Rattle.std.specs.List.Sorted.{IsPermutation, IsNonDecreasingBy}
 use Rattle.picker.specs.declared.picker.Offer.{Offer}
 use Rattle.traces.specs.View.{View}
@@ -12,15 +14,20 @@ use Rattle.traces.specs.Trace.{Trial}
 use Rattle.exec_core.specs.Engines.{IsIdle}
 use Rattle.exec_core.specs.Turned.{Turned, Refused}
 use Rattle.exec_core.specs.declared.engine.Engine.{Engine}
-use Rattle.exec_core.specs.declared.lives.Live.{Live}
+use Rattle.exec_core.specs.declared.execution.Execution.{Execution as Concrete}
 
 module _ {S : Type 0} where
-  abbrev pub offer_of : Live S → Offer
+  abbrev pub offer_of : Concrete S → Offer
   offer_of l = record { step = l.step; least = slice_index l.members 0; members = length l.members }
 
-  pub record AreOffered (lives : List (Live S)) (offers : List Offer) : Type 0 where
+  pub record AreOffered (lives : List (Concrete S)) (offers : List Offer) : Type 0 where
     pub rising : IsNonDecreasingBy (λ l. slice_index l.members 0) lives
     pub are : offers ≡ map offer_of lives
+
+  pub record IsReplaced (at : ℕ) (before after : List (Concrete S)) : Type 0 where
+    pub taken : Concrete S
+    pub made : List (Concrete S)
+    pub are : after ≡ swap_remove before at taken ++ made
 
 pub record IsArranged {S C : Type 0} (before after : Engine S C) : Type 0 where
   pub moved : IsPermutation before.lives.items after.lives.items

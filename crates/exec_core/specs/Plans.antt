@@ -7,15 +7,15 @@ use Rattle.traces.specs.Meanings.{Meanings}
 use Rattle.traces.specs.Trace.{Trial, change_of}
 use Rattle.traces.specs.Configuration.{Execution, same_change, is_leader}
 use Rattle.traces.specs.View.{View, Keeps}
-use Rattle.exec_core.specs.Pieces.{IsReadied, numbers_of}
-use Rattle.exec_core.specs.declared.pieces.Piece.{Piece}
-use Rattle.exec_core.specs.declared.plans.Plan.{Plan}
+use Rattle.exec_core.specs.Children.{IsReadied, numbers_of}
+use Rattle.exec_core.specs.declared.divide.Child.{Child}
+use Rattle.exec_core.specs.declared.plan.Plan.{Plan}
 
 module _ {S C : Type 0} where
-  abbrev pub planned_of : Piece S C → List ℕ × C
+  abbrev pub planned_of : Child S C → List ℕ × C
   planned_of p = (p.members, p.change)
 
-  abbrev pub states_of : List (Piece S C) → List S
+  abbrev pub states_of : List (Child S C) → List S
   states_of ps = map (λ p. p.state) ps
 
 abbrev pub plans_of : {C : Type 0} → List (Plan C) → List (List ℕ × C)
@@ -24,14 +24,15 @@ plans_of ps = map (λ p. (p.members, p.change)) ps
 abbrev pub plan_weights : {C : Type 0} → (C → ℕ) → List (List ℕ × C) → ℕ
 plan_weights weight ps = sum_by (λ p. weight p.1) ps
 
--- the state became readied pieces, one for each plan
-pub record ArePrepared {M S W C : Type 0} (V : View M S W C) (old : M) (own : S) (new : M) (plans : List (List ℕ × C)) (pieces : List (Piece S C)) : Type 0 where
-  pub readied : All (IsReadied V new) pieces
-  pub distinct : IsDistinct nat_eq (numbers_of V pieces)
-  pub planned : IsPermutation plans (map planned_of pieces)
-  pub stand : All (λ p. V.stands new p.state ≡ V.stands old own) pieces
-  pub numbers : IsPermutation (numbers_of V pieces ++ V.out_numbers old) (V.number own ∷ V.out_numbers new)
-  pub fresh : (k : ℕ) → Contains (V.out_numbers old) k → (Contains (V.number own ∷ []) k → ⊥) → Contains (numbers_of V pieces) k → ⊥
+-- the state became readied children, one for each plan
+pub record ArePrepared {M S W C : Type 0} (V : View M S W C) (old : M) (own : S) (new : M) (plans : List (List ℕ × C))
+    (children : List (Child S C)) : Type 0 where
+  pub readied : All (IsReadied V new) children
+  pub distinct : IsDistinct nat_eq (numbers_of V children)
+  pub planned : IsPermutation plans (map planned_of children)
+  pub stand : All (λ p. V.stands new p.state ≡ V.stands old own) children
+  pub numbers : IsPermutation (numbers_of V children ++ V.out_numbers old) (V.number own ∷ V.out_numbers new)
+  pub fresh : (k : ℕ) → Contains (V.out_numbers old) k → (Contains (V.number own ∷ []) k → ⊥) → Contains (numbers_of V children) k → ⊥
   pub keeps : Keeps V old new (V.number own ∷ [])
 
 -- those of the changes whose number is their own index, where the first of them has the index i

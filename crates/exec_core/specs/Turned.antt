@@ -14,10 +14,10 @@ use Rattle.traces.specs.Trace.{Trial}
 use Rattle.traces.specs.Configuration.{Execution, is_leader, parts, variants_of}
 use Rattle.traces.specs.Counts.{RoseBy, RoseWithin}
 use Rattle.exec_core.specs.Counted.{counts_of_turn}
-use Rattle.exec_core.specs.Lives.{execution_of, live_numbers, goes_on}
+use Rattle.exec_core.specs.Executions.{execution_of, state_numbers, goes_on}
 use Rattle.exec_core.specs.Divided.{child_of}
 use Rattle.exec_core.specs.Engines.{split_seen}
-use Rattle.exec_core.specs.declared.lives.Live.{Live}
+use Rattle.exec_core.specs.declared.execution.Execution.{Execution as Concrete}
 use Rattle.exec_core.specs.declared.engine.Engine.{Engine}
 
 module _ {S C : Type 0} (T : Trial S C) where
@@ -25,33 +25,34 @@ module _ {S C : Type 0} (T : Trial S C) where
   split_made e = let leaders = filter (is_leader T e) e.members in if nat_lt 1 (length leaders) then (e.step, leaders) ∷ [] else []
 
 module _ {M S W C : Type 0} (V : View M S W C) where
-  abbrev pub executions_of : M → List (Live S) → List (Live S) → List (Execution W)
+  abbrev pub executions_of : M → List (Concrete S) → List (Concrete S) → List (Execution W)
   executions_of m lives ended = map (execution_of V m) (lives ++ ended)
 
-  pub record IsHeld (m : M) (budget : ℕ) (others : List ℕ) (lives ended : List (Live S)) : Type 0 where
+  pub record IsHeld (m : M) (budget : ℕ) (others : List ℕ) (lives ended : List (Concrete S)) : Type 0 where
     pub out : All (λ l. V.is_out m l.state) (lives ++ ended)
-    pub numbers : IsPermutation (V.out_numbers m) (live_numbers V (lives ++ ended) ++ others)
+    pub numbers : IsPermutation (V.out_numbers m) (state_numbers V (lives ++ ended) ++ others)
     pub live : All (λ l. goes_on V m budget l ≡ true) lives
     pub over : All (λ l. goes_on V m budget l ≡ false) ended
 
-  pub record AreHeld (m : M) (budget : ℕ) (lives ended : List (Live S)) : Type 0 where
+  pub record AreHeld (m : M) (budget : ℕ) (lives ended : List (Concrete S)) : Type 0 where
     pub others : List ℕ
     pub held : IsHeld m budget others lives ended
 
-  pub record Advanced (old new : M) (budget : ℕ) (e : Live S) (plans : List (List ℕ × C)) (lives_before lives ended_before ended : List (Live S)) : Type 0 where
-    pub live : List (Live S)
-    pub over : List (Live S)
+  pub record Advanced (old new : M) (budget : ℕ) (e : Concrete S) (plans : List (List ℕ × C))
+      (lives_before lives ended_before ended : List (Concrete S)) : Type 0 where
+    pub live : List (Concrete S)
+    pub over : List (Concrete S)
     pub lives_are : lives ≡ lives_before ++ live
     pub ended_are : ended ≡ ended_before ++ over
     pub all_live : All (λ l. goes_on V new budget l ≡ true) live
     pub all_over : All (λ l. goes_on V new budget l ≡ false) over
     pub out : All (λ l. V.is_out new l.state) (live ++ over)
     pub seen : IsPermutation (map (child_of V old e) plans) (map (execution_of V new) (live ++ over))
-    pub numbers : IsPermutation (live_numbers V (live ++ over) ++ V.out_numbers old) (V.number e.state ∷ V.out_numbers new)
+    pub numbers : IsPermutation (state_numbers V (live ++ over) ++ V.out_numbers old) (V.number e.state ∷ V.out_numbers new)
     pub keeps : Keeps V old new (V.number e.state ∷ [])
 
   pub record Turned (T : Trial W C) (old new : M) (at : ℕ) (before after : Engine S C) (counted_before counted_after : ℕ) : Type 0 where
-    pub turned : Live S
+    pub turned : Concrete S
     pub there : slice_get before.lives.items at ≡ Some turned
     pub rest : List (Execution W)
     pub was : IsPermutation (executions_of old before.lives.items before.ended.items) (execution_of V old turned ∷ rest)
@@ -63,7 +64,7 @@ module _ {M S W C : Type 0} (V : View M S W C) where
     pub splits : map split_seen after.splits.items ≡ map split_seen before.splits.items ++ split_made T (execution_of V old turned)
 
   pub record Refused (T : Trial W C) (old new : M) (at : ℕ) (before after : Engine S C) (counted_before counted_after : ℕ) : Type 0 where
-    pub refused : Live S
+    pub refused : Concrete S
     pub there : slice_get before.lives.items at ≡ Some refused
     pub same : IsPermutation (executions_of old before.lives.items before.ended.items) (executions_of new after.lives.items after.ended.items)
     pub counts : RoseWithin (V.counts old) (V.counts new) (counts_of_turn T (execution_of V old refused))

@@ -1,8 +1,10 @@
-ghost use Rattle.std.specs.Prelude.{◌≡◌, ◌+◌, ◌≤◌, [], OnOk, vec_len, vec_capacity};
+//! The executions of an analysis, and what it has taken so far.
+
+ghost use Rattle.std.specs.Prelude.{◌≡◌, [], OnOk};
 ghost use Rattle.exec_core.specs.Engines.{KeepsExecutions, HasRoomFor, IsIdle};
 
-use crate::lives::Live;
-use crate::pieces::Piece;
+use crate::divide::Child;
+use crate::execution::Execution;
 use crate::result::Split;
 use am_base::OutOfMemory;
 use std::alloc::Global;
@@ -10,18 +12,20 @@ use std::alloc::Global;
 /// The executions of an analysis and what it has taken so far.
 pub struct Engine<S, C> {
     /// Those that go on, and those that have ended.
-    pub lives: Vec<Live<S>>,
-    pub ended: Vec<Live<S>>,
+    pub lives: Vec<Execution<S>>,
+    pub ended: Vec<Execution<S>>,
     /// The divisions, in the order of the turns.
     pub splits: Vec<Split>,
-    /// How many variants were tried, and how many changes the mutants would have made so far, each by itself.
+    /// How many variants were tried, and how many changes the mutants would have made so far, each
+    /// by itself.
     pub tries: u64,
     pub alone: u64,
     /// Room for a turn, empty between turns.
-    pub pieces: Vec<Piece<S, C>>,
-    pub readied: Vec<Piece<S, C>>,
-    pub made: Vec<Live<S>>,
-    /// Room for a table by variant number, of marks and then of classes, whose entries mean nothing between turns.
+    pub children: Vec<Child<S, C>>,
+    pub readied: Vec<Child<S, C>>,
+    pub made: Vec<Execution<S>>,
+    /// Room for a table by variant number, of marks and then of classes, whose entries mean nothing
+    /// between turns.
     pub classes: Vec<u32>,
 }
 
@@ -40,7 +44,7 @@ pub fn idle<S, C>(alloc: Global) -> Engine<S, C>
         splits: Vec::new(alloc),
         tries: 0,
         alone: 0,
-        pieces: Vec::new(alloc),
+        children: Vec::new(alloc),
         readied: Vec::new(alloc),
         made: Vec::new(alloc),
         classes: Vec::new(alloc),
@@ -57,7 +61,7 @@ pub fn make_room<S, C>(engine: &mut Engine<S, C>, parts: usize) -> Result<(), Ou
 {
     engine.lives.reserve(parts)?;
     engine.ended.reserve(parts)?;
-    engine.pieces.reserve(parts)?;
+    engine.children.reserve(parts)?;
     engine.readied.reserve(parts)?;
     engine.made.reserve(parts)?;
     Ok(())

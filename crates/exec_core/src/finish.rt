@@ -1,3 +1,5 @@
+//! What an analysis gives, and the release of all that it holds.
+
 ghost use Rattle.std.specs.Prelude.{◌≡◌, ℕ, ◌≤◌, ◌++◌, [], List, length, map, nat_eq, slice_index, vec_len, vec_capacity};
 ghost use Rattle.std.specs.List.{All, AllPairs, IsDistinct};
 ghost use Rattle.std.specs.List.Sorted.{IsPermutation, IsNonDecreasingBy};
@@ -5,27 +7,24 @@ ghost use Rattle.traces.specs.Counts.{SameCounts};
 ghost use Rattle.traces.specs.View.{Keeps};
 ghost use Rattle.exec_core.specs.Analysed.{class_from};
 ghost use Rattle.exec_core.specs.Engines.{IsIdle, split_seen};
-ghost use Rattle.exec_core.specs.Lives.{live_numbers};
+ghost use Rattle.exec_core.specs.Executions.{state_numbers};
 ghost use Rattle.traces.specs.Splits.{IsEarlier};
 
 use crate::engine::Engine;
-use crate::lives::Live;
-use crate::result::{Analysis, Class, Work};
-use crate::room::put;
-use crate::settle::release_lives;
-use crate::sorted::{sort_classes, sort_splits};
+use crate::execution::{Execution, put, release_executions};
+use crate::result::{Analysis, Class, Split, Work};
 use am_lists::Items;
 use exec_machine::Machine;
 
 /// Makes each execution a class, from the last to the first.
-fn move_classes<S>(ended: &mut Vec<Live<S>>, classes: &mut Vec<Class<S>>)
+fn move_classes<S>(ended: &mut Vec<Execution<S>>, classes: &mut Vec<Class<S>>)
     requires empty { classes.old.items ≡ [] }
     requires room { vec_len ended.old ≤ vec_capacity classes.old }
     ensures moved { IsPermutation (map class_from ended.old.items) classes.new.items }
     ensures empty { ended.new.items ≡ [] }
 {
     while let Some(l) = ended.pop() {
-        let Live {
+        let Execution {
             step,
             members,
             state,
@@ -41,7 +40,8 @@ fn move_classes<S>(ended: &mut Vec<Live<S>>, classes: &mut Vec<Class<S>>)
     }
 }
 
-/// What an analysis gives, where no execution goes on. `classes` has room for the executions that have ended.
+/// What an analysis gives, where no execution goes on. `classes` has room for the executions that
+/// have ended.
 pub fn analysis_of<S, C>(
     engine: Engine<S, C>,
     mut classes: Vec<Class<S>>,
@@ -66,7 +66,7 @@ pub fn analysis_of<S, C>(
         mut splits,
         tries,
         alone,
-        pieces,
+        children,
         readied,
         made,
         classes: _,
@@ -75,7 +75,7 @@ pub fn analysis_of<S, C>(
     move_classes(&mut ended, &mut classes);
     lives.destroy_empty();
     ended.destroy_empty();
-    pieces.destroy_empty();
+    children.destroy_empty();
     readied.destroy_empty();
     made.destroy_empty();
     sort_classes(&mut classes);
@@ -96,11 +96,11 @@ pub fn analysis_of<S, C>(
 pub fn release_engine<M: Machine>(machine: &mut M, engine: Engine<M::State, M::Change>)
     requires idle { IsIdle engine }
     requires out { All (λ l. M.view.is_out machine.old l.state) (engine.lives.items ++ engine.ended.items) }
-    requires distinct { IsDistinct nat_eq (live_numbers M.view (engine.lives.items ++ engine.ended.items)) }
+    requires distinct { IsDistinct nat_eq (state_numbers M.view (engine.lives.items ++ engine.ended.items)) }
     ensures out_numbers { IsPermutation (M.view.out_numbers machine.old)
-        (live_numbers M.view (engine.lives.items ++ engine.ended.items) ++ M.view.out_numbers machine.new) }
+        (state_numbers M.view (engine.lives.items ++ engine.ended.items) ++ M.view.out_numbers machine.new) }
     ensures counts { SameCounts (M.view.counts machine.old) (M.view.counts machine.new) }
-    ensures keeps { Keeps M.view machine.old machine.new (live_numbers M.view (engine.lives.items ++ engine.ended.items)) }
+    ensures keeps { Keeps M.view machine.old machine.new (state_numbers M.view (engine.lives.items ++ engine.ended.items)) }
 {
     let Engine {
         lives,
@@ -108,14 +108,40 @@ pub fn release_engine<M: Machine>(machine: &mut M, engine: Engine<M::State, M::C
         splits: _,
         tries: _,
         alone: _,
-        pieces,
+        children,
         readied,
         made,
         classes: _,
     } = engine;
-    pieces.destroy_empty();
+    children.destroy_empty();
     readied.destroy_empty();
     made.destroy_empty();
-    release_lives(machine, lives);
-    release_lives(machine, ended);
+    release_executions(machine, lives);
+    release_executions(machine, ended);
+}
+
+/// The first part of a split, and 0 where it has none.
+fn first_part(split: &Split) -> u32
+    ensures { result ≡ slice_index split.now.parts 0 }
+{
+    match split.parts.get(0) {
+        Some(m) => *m,
+        None => 0,
+    }
+}
+
+/// Puts the splits in order of step, then of the first part.
+pub fn sort_splits(splits: &mut Vec<Split>)
+    ensures { (ordered : List (ℕ × List ℕ)) → IsPermutation (map split_seen splits.old.items) ordered → AllPairs IsEarlier ordered
+        → map split_seen splits.new.items ≡ ordered }
+{
+    splits.sort_unstable_by_key(|split| (split.step, first_part(split)));
+}
+
+/// Puts the classes in order of least member.
+pub fn sort_classes<S>(classes: &mut Vec<Class<S>>)
+    ensures moved { IsPermutation classes.old.items classes.new.items }
+    ensures rising { IsNonDecreasingBy (λ c. slice_index c.members 0) classes.new.items }
+{
+    classes.sort_unstable_by_key(|class| class.members.least());
 }

@@ -1,28 +1,30 @@
 //! The order of turns: a picker chooses the live execution that takes the next one.
 
-ghost use Rattle.std.specs.Prelude.{◌≡◌, ℕ, ◌*◌, ◌^◌, ◌<◌, ◌≤◌, ◌++◌, List, length, map, OnOk, OnErr, slice_index, vec_len};
+ghost use Rattle.std.specs.Prelude.{◌≡◌, ℕ, ◌+◌, ◌*◌, ◌^◌, ◌<◌, ◌≤◌, ◌++◌, ◌∷◌, [], List, length, map, IfOk, OnOk, OnErr, slice_index, slice_set, vec_len};
+ghost use Rattle.std.specs.List.{remove, swap_remove};
 ghost use Rattle.std.specs.List.Sorted.{IsPermutation, IsNonDecreasingBy};
 ghost use Rattle.traces.specs.Counts.{AreAtMost};
 ghost use Rattle.traces.specs.View.{Keeps};
 ghost use Rattle.exec_core.specs.Engines.{IsIdle};
-ghost use Rattle.exec_core.specs.Lives.{live_numbers};
-ghost use Rattle.exec_core.specs.Picked.{offer_of, IsArranged, Took, AreOffered, HasRefused};
+ghost use Rattle.exec_core.specs.Executions.{state_numbers};
+ghost use Rattle.exec_core.specs.Picked.{offer_of, IsArranged, IsReplaced, Took, AreOffered, HasRefused};
 ghost use Rattle.exec_core.specs.Plans.{KnowsTable};
 ghost use Rattle.code_form.specs.Trial.{trial_of};
 ghost use Rattle.exec_core.specs.Turned.{IsHeld, AreHeld};
+ghost use Rattle.exec_core.specs.declared.execution.Execution.{Execution};
 
 use crate::engine::Engine;
-use crate::lives::Live;
+use crate::execution::{Execution, put};
 use crate::meter::Meter;
 use crate::turn::turn;
-use am_base::OutOfMemory;
+use am_base::{MAX_BUDGET, OutOfMemory};
 use code_form::Variants;
 use exec_machine::Machine;
 use picker::{Offer, Picker};
 use std::alloc::Global;
 
 /// Returns what a picker sees of an execution.
-fn offer<S>(l: &Live<S>) -> Offer
+fn offer<S>(l: &Execution<S>) -> Offer
     ensures { result ≡ offer_of l.now }
 {
     Offer {
@@ -33,7 +35,7 @@ fn offer<S>(l: &Live<S>) -> Offer
 }
 
 /// Writes down what a picker sees of these executions, in their order.
-fn offer_all<S>(lives: &[Live<S>], offers: &mut Vec<Offer>) -> Result<(), OutOfMemory>
+fn offer_all<S>(lives: &[Execution<S>], offers: &mut Vec<Offer>) -> Result<(), OutOfMemory>
     ensures { OnOk result (offers.new.items ≡ map offer_of lives.now) }
 {
     offers.clear();
@@ -44,7 +46,7 @@ fn offer_all<S>(lives: &[Live<S>], offers: &mut Vec<Offer>) -> Result<(), OutOfM
 }
 
 /// Puts executions in order of least member.
-fn sort_lives<S>(lives: &mut Vec<Live<S>>)
+fn sort_executions<S>(lives: &mut Vec<Execution<S>>)
     ensures moved { IsPermutation lives.old.items lives.new.items }
     ensures rising { IsNonDecreasingBy (λ l. slice_index l.members 0) lives.new.items }
 {
@@ -56,8 +58,63 @@ pub fn arrange<S, C>(engine: &mut Engine<S, C>, offers: &mut Vec<Offer>) -> Resu
     ensures arranged { IsArranged engine.old engine.new }
     ensures offered { OnOk result (AreOffered engine.new.lives.items offers.new.items) }
 {
-    sort_lives(&mut engine.lives);
+    sort_executions(&mut engine.lives);
     offer_all(&engine.lives, offers)
+}
+
+/// Moves the execution at an index, which was the last one before another one left that place,
+/// back behind the others.
+fn move_behind<S>(lives: &mut Vec<Execution<S>>, at: usize)
+    ensures moved { IsPermutation lives.old.items lives.new.items }
+    ensures order { (before : List (Execution S)) (taken : Execution S) → at < length before
+        → lives.old.items ≡ swap_remove before at taken → lives.new.items ≡ remove before at }
+{
+    if at >= lives.len() {
+        return;
+    }
+    let last = lives.remove(at);
+    put(lives, last);
+}
+
+/// Exchanges the execution at an index with the last one.
+fn exchange_with_last<S>(lives: &mut Vec<Execution<S>>, at: usize)
+    requires { at < vec_len lives.old }
+    ensures moved { IsPermutation lives.old.items lives.new.items }
+    ensures order { (before : List (Execution S)) (taken made : Execution S) → at < length before
+        → lives.old.items ≡ swap_remove before at taken ++ made ∷ [] → lives.new.items ≡ slice_set before at made }
+{
+    let last = lives.len() - 1;
+    lives.swap(at, last);
+}
+
+/// Puts the live executions back in order of least member after a turn of the one at an index, and
+/// changes what a picker sees of them where the turn changed it: `offers` is what it saw before.
+/// Where the execution has ended, or is one with the same least member, no other is looked at.
+pub fn rearrange<S, C>(
+    engine: &mut Engine<S, C>,
+    offers: &mut Vec<Offer>,
+    at: usize,
+) -> Result<(), OutOfMemory>
+    requires { at < vec_len offers.old }
+    ensures arranged { IsArranged engine.old engine.new }
+    ensures offered { OnOk result ((before : List (Execution S)) → AreOffered before offers.old.items
+        → IsReplaced at before engine.old.lives.items → AreOffered engine.new.lives.items offers.new.items) }
+{
+    let last = offers.len() - 1;
+    if engine.lives.len() == last {
+        move_behind(&mut engine.lives, at);
+        let _gone = offers.remove(at);
+        return Ok(());
+    }
+    if engine.lives.len() == offers.len() {
+        let now = offer(&engine.lives[last]);
+        if now.least == offers[at].least {
+            exchange_with_last(&mut engine.lives, at);
+            offers[at] = now;
+            return Ok(());
+        }
+    }
+    arrange(engine, offers)
 }
 
 /// Asks the picker.
@@ -70,7 +127,7 @@ fn ask(picker: &mut Box<dyn Picker>, offers: &[Offer]) -> usize
 }
 
 /// Asks the picker once, with what it sees of all live executions in order of least member, and
-/// gives the execution that it chose its turn.
+/// gives the execution that it chose its turn. Returns the index that it chose.
 pub fn take_turn<M: Machine>(
     alloc: Global,
     machine: &mut M,
@@ -80,12 +137,12 @@ pub fn take_turn<M: Machine>(
     offers: &[Offer],
     engine: &mut Engine<M::State, M::Change>,
     meter: &mut Meter,
-) -> Result<(), OutOfMemory>
+) -> Result<usize, OutOfMemory>
     requires held { AreHeld M.view machine.old budget engine.old.lives.items engine.old.ended.items }
     requires some { 0 < vec_len engine.old.lives }
     requires offered { AreOffered engine.old.lives.items offers.now }
     requires idle { IsIdle engine.old }
-    requires budget { budget ≤ 10000000 }
+    requires budget { budget ≤ MAX_BUDGET }
     requires known { KnowsTable (M.view.meanings machine.old) table.now }
     requires room { AreAtMost (7 * 2 ^ 60) (M.view.counts machine.old) }
     requires room_to_count { meter.old ≤ 7 * 2 ^ 60 }
@@ -93,13 +150,18 @@ pub fn take_turn<M: Machine>(
     requires alone { engine.old.alone ≤ 7 * 2 ^ 60 }
     ensures took { OnOk result ((start : M.Meaning) → Took M.view (trial_of (M.view.meanings machine.old) table.now start budget)
         (picks picker.old) machine.old machine.new engine.old engine.new meter.old meter.new) }
+    ensures at { IfOk result (λ at. at < length offers.now) }
+    ensures replaced { IfOk result (λ at. IsReplaced at engine.old.lives.items engine.new.lives.items) }
     ensures refused { OnErr result ((start : M.Meaning) → HasRefused M.view (trial_of (M.view.meanings machine.old) table.now start budget)
         machine.old machine.new engine.old engine.new meter.old meter.new) }
     ensures held { (others : List ℕ) → IsHeld M.view machine.old budget others engine.old.lives.items engine.old.ended.items
         → IsHeld M.view machine.new budget others engine.new.lives.items engine.new.ended.items }
     ensures idle { IsIdle engine.new }
-    ensures keeps { Keeps M.view machine.old machine.new (live_numbers M.view (engine.old.lives.items ++ engine.old.ended.items)) }
+    ensures keeps { Keeps M.view machine.old machine.new (state_numbers M.view (engine.old.lives.items ++ engine.old.ended.items)) }
 {
     let at = ask(picker, offers);
-    turn(alloc, machine, table, budget, at, engine, meter)
+    match turn(alloc, machine, table, budget, at, engine, meter) {
+        Ok(()) => Ok(at),
+        Err(error) => Err(error),
+    }
 }

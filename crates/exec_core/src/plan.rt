@@ -1,24 +1,36 @@
-ghost use Rattle.std.specs.Prelude.{◌≡◌, ℕ, ◌*◌, ◌^◌, ◌≤◌, [], length, IfOk, OnOk, map, nat_eq};
-ghost use Rattle.std.specs.List.{IsDistinct};
-ghost use Rattle.member_sets.specs.Members.{IsMemberList};
+//! The plan of a turn: the different variants of the members, the changes that they make, and for
+//! each different change its members.
+
+ghost use Rattle.std.specs.Prelude.{◌≡◌, ◌↔◌, ℕ, ◌*◌, ◌^◌, ◌<◌, ◌≤◌, [], length, IfOk, OnOk, IsTrue, EachIndex, map, nat_eq, slice_index, ◌≢◌, ◌+◌, List};
+ghost use Rattle.std.specs.Prelude.{IfSome, IfNone, ◌==◌, ◌++◌, ◌∷◌, reverse, vec_len, vec_capacity, nat_lt, if◌then◌else◌};
+ghost use Rattle.std.specs.List.{All, Contains, IsDistinct, filter};
+ghost use Rattle.code_form.specs.Variant.{variant_of, IsRising};
+ghost use Rattle.member_sets.specs.Members.{IsMemberList, class_at, parts_by, is_class_leader};
 ghost use Rattle.traces.specs.Configuration.{variants_of};
 ghost use Rattle.traces.specs.View.{Keeps, IsLive};
-ghost use Rattle.traces.specs.Counts.{RoseBy, RoseWithin, AreAtMost};
+ghost use Rattle.traces.specs.Counts.{RoseBy, RoseWithin, AreAtMost, SameCounts};
 ghost use Rattle.exec_core.specs.Counted.{tries_of_turn};
-ghost use Rattle.exec_core.specs.Plans.{plans_of, plans_at, KnowsTable};
 ghost use Rattle.code_form.specs.Trial.{trial_of};
-ghost use Rattle.exec_core.specs.Lives.{execution_of};
+ghost use Rattle.exec_core.specs.Plans.{plans_of, plans_at, KnowsTable, planned_of, states_of, own_firsts};
+ghost use Rattle.exec_core.specs.Executions.{execution_of};
+ghost use Rattle.std.specs.List.Sorted.{IsStrictlyIncreasing};
+ghost use Rattle.exec_core.specs.ClassTable.{IsAt, with_number, firsts, HasClasses};
+ghost use Rattle.member_sets.specs.Marks.{AreMarked};
+ghost use Rattle.exec_core.specs.Held.{AreForksOf};
+ghost use Rattle.exec_core.specs.Engines.{split_seen};
 
-use crate::class_table::write_classes;
-use crate::lives::Live;
-use crate::plans::{Plan, plans_for};
-use crate::tried::variants_in;
-use am_base::OutOfMemory;
-use code_form::Variants;
+use crate::divide::Child;
+use crate::execution::{Execution, put};
+use crate::result::Split;
+use am_base::{MAX_MUTANTS, OutOfMemory};
+use am_lists::Items;
+use code_form::{Place, Variants};
 use exec_machine::Machine;
+use member_sets::{Members, is_marked, mark, widen};
 use std::alloc::Global;
 
-/// The different variants that the members of an execution have at its place, and the changes that they make there.
+/// The different variants that the members of an execution have at its place, and the changes that
+/// they make there.
 #[derive(Drop)]
 struct Tried<C> {
     pub variants: Vec<u32>,
@@ -32,12 +44,13 @@ pub struct Planned<C> {
     pub tried: u64,
 }
 
-/// Tries the different variants of an execution's members. `marks` is room for a table by variant number.
+/// Tries the different variants of an execution's members. `marks` is room for a table by variant
+/// number.
 fn try_members<M: Machine>(
     alloc: Global,
     machine: &mut M,
     table: &Variants,
-    e: &Live<M::State>,
+    e: &Execution<M::State>,
     marks: &mut Vec<u32>,
 ) -> Result<Tried<M::Change>, OutOfMemory>
     requires out { M.view.is_out machine.old e.now.state }
@@ -47,7 +60,7 @@ fn try_members<M: Machine>(
     ensures variants { IfOk result (λ tried. (start : M.Meaning) (budget : ℕ) → tried.variants.items
         ≡ variants_of (trial_of (M.view.meanings machine.old) table.now start budget) (execution_of M.view machine.old e.now)) }
     ensures distinct { IfOk result (λ tried. IsDistinct nat_eq tried.variants.items) }
-    ensures few { IfOk result (λ tried. length tried.variants.items ≤ 65536) }
+    ensures few { IfOk result (λ tried. length tried.variants.items ≤ MAX_MUTANTS) }
     ensures members { OnOk result (IsMemberList e.now.members) }
     ensures changes { IfOk result (λ tried. tried.changes.items
         ≡ map (λ v. (M.view.meanings machine.old).next v (M.view.stands machine.old e.now.state)) tried.variants.items) }
@@ -59,21 +72,53 @@ fn try_members<M: Machine>(
     ensures keeps { Keeps M.view machine.old machine.new [] }
 {
     let place = machine.place(&e.state);
-    let members = e.members.list(alloc)?;
+    let members = e.members.as_slice();
     let _len = e.members.len();
-    let variants = variants_in(alloc, members.as_slice(), table, place, marks)?;
+    let variants = variants_in(alloc, members, table, place, marks)?;
     let mut changes = Vec::new(alloc);
     machine.tries(alloc, &e.state, &variants, &mut changes)?;
     Ok(Tried { variants, changes })
 }
 
-/// Tries the different variants of an execution's members, and gives a plan for each different change. `classes` is room for a table by
-/// variant number, whose entries mean nothing before and afterwards.
-pub fn plan<M: Machine>(
+/// Whether all numbers are 0.
+fn are_zero(numbers: &[u32]) -> bool
+    ensures { IsTrue result ↔ EachIndex numbers.now (λ k. slice_index numbers.now k ≡ 0) }
+{
+    numbers.iter().all(|n| *n == 0)
+}
+
+/// Returns the parts of the members by the classes of their variants, in order of least member.
+/// `class_of` has the class of each variant that a member has at the place, and `numbers` has the
+/// classes. Where there is one class the members are shared, and none is looked at.
+fn split(
+    alloc: Global,
+    members: &Members,
+    table: &Variants,
+    place: Place,
+    class_of: &[u32],
+    numbers: &[u32],
+) -> Result<Items<Members>, OutOfMemory>
+    requires within { All (λ m. variant_of table.now m place.0 < length class_of.now) members.now }
+    requires classes { All (λ m. Contains numbers.now (class_at (variant_of table.now) place.0 class_of.now m)) members.now }
+    ensures { IfOk result (λ parts. parts ≡ parts_by (class_at (variant_of table.now) place.0 class_of.now) members.now) }
+{
+    if !are_zero(numbers) {
+        return members.split_by(alloc, table, place, class_of);
+    }
+    let _members = members.as_slice();
+    let mut parts = Vec::with_capacity(alloc, 1)?;
+    parts.push(members.share()?)?;
+    Ok(Items::from_vec(parts))
+}
+
+/// Tries the different variants of an execution's members, and gives a plan for each different
+/// change. `classes` is room for a table by variant number, whose entries mean nothing before and
+/// afterwards.
+pub fn make_plans<M: Machine>(
     alloc: Global,
     machine: &mut M,
     table: &Variants,
-    e: &Live<M::State>,
+    e: &Execution<M::State>,
     classes: &mut Vec<u32>,
 ) -> Result<Planned<M::Change>, OutOfMemory>
     requires out { M.view.is_out machine.old e.now.state }
@@ -84,7 +129,7 @@ pub fn plan<M: Machine>(
         ≡ plans_at (trial_of (M.view.meanings machine.old) table.now start budget) (execution_of M.view machine.old e.now)) }
     ensures tried { IfOk result (λ planned. (start : M.Meaning) (budget : ℕ) → planned.tried
         ≡ length (variants_of (trial_of (M.view.meanings machine.old) table.now start budget) (execution_of M.view machine.old e.now))) }
-    ensures few { IfOk result (λ planned. planned.tried ≤ 65536) }
+    ensures few { IfOk result (λ planned. planned.tried ≤ MAX_MUTANTS) }
     ensures members { OnOk result (IsMemberList e.now.members) }
     ensures counts { OnOk result ((start : M.Meaning) (budget : ℕ) → RoseBy (M.view.counts machine.old) (M.view.counts machine.new)
         (tries_of_turn (trial_of (M.view.meanings machine.old) table.now start budget) (execution_of M.view machine.old e.now))) }
@@ -98,10 +143,247 @@ pub fn plan<M: Machine>(
     let Tried { variants, changes } = tried;
     let numbers = machine.group(alloc, &changes)?;
     write_classes(classes, &variants, numbers.as_slice())?;
-    let parts = e.members.split_by(alloc, table, place, classes)?;
+    let parts = split(alloc, &e.members, table, place, classes, numbers.as_slice())?;
     let plans = plans_for(alloc, parts, changes, numbers.as_slice())?;
     Ok(Planned {
         plans,
         tried: variants.len() as u64,
     })
+}
+
+/// Returns the index of a number in a rising list. `None` iff it isn't there. O(log n).
+fn index_of(numbers: &[u32], number: u32) -> Option<usize>
+    requires { IsStrictlyIncreasing numbers.now }
+    ensures within { IfSome result (λ at. at < length numbers.now) }
+    ensures there { IfSome result (λ at. slice_index numbers.now at ≡ number) }
+    ensures none { IfNone result ((k : ℕ) → k < length numbers.now → slice_index numbers.now k ≢ number) }
+{
+    match numbers.binary_search(&number) {
+        Ok(at) => Some(at),
+        Err(_) => None,
+    }
+}
+
+/// Appends a number that isn't among these yet. Each of them has its index in the table of marks.
+/// O(1).
+fn add(marks: &mut Vec<u32>, numbers: &mut Vec<u32>, number: u32) -> Result<(), OutOfMemory>
+    requires marked { AreMarked numbers.old.items marks.old.items }
+    requires distinct { IsDistinct nat_eq numbers.old.items }
+    requires few { length numbers.old.items < 2 ^ 32 }
+    ensures marked { OnOk result (AreMarked numbers.new.items marks.new.items) }
+    ensures distinct { OnOk result (IsDistinct nat_eq numbers.new.items) }
+    ensures added { OnOk result (numbers.new.items ≡ with_number numbers.old.items number) }
+{
+    if !is_marked(marks, numbers, number) {
+        mark(marks, numbers, number)?;
+    }
+    Ok(())
+}
+
+/// Goes over the members from the index `at` up to the index `end`, all of which have variant 0.
+/// O(1).
+fn add_originals(
+    marks: &mut Vec<u32>,
+    variants: &mut Vec<u32>,
+    at: usize,
+    end: usize,
+) -> Result<(), OutOfMemory>
+    requires marked { AreMarked variants.old.items marks.old.items }
+    requires distinct { IsDistinct nat_eq variants.old.items }
+    requires few { length variants.old.items < 2 ^ 32 }
+    ensures marked { OnOk result (AreMarked variants.new.items marks.new.items) }
+    ensures distinct { OnOk result (IsDistinct nat_eq variants.new.items) }
+    ensures few { OnOk result (length variants.new.items ≤ length variants.old.items + 1) }
+    ensures variants { OnOk result ((v : ℕ → ℕ) (members : List ℕ) → IsMemberList members → at ≤ end → end ≤ length members
+        → ((k : ℕ) → at ≤ k → k < end → v (slice_index members k) ≡ 0)
+        → variants.old.items ≡ firsts v members at → variants.new.items ≡ firsts v members end) }
+{
+    if at < end {
+        add(marks, variants, 0)?;
+    }
+    Ok(())
+}
+
+/// Goes over the members from the index `at` up to the mutant `m`, which has this variant. Returns
+/// the index behind it, or `at` where it is no member. O(log n).
+fn visit(
+    marks: &mut Vec<u32>,
+    variants: &mut Vec<u32>,
+    members: &[u32],
+    at: usize,
+    m: u32,
+    variant: u32,
+) -> Result<usize, OutOfMemory>
+    requires marked { AreMarked variants.old.items marks.old.items }
+    requires distinct { IsDistinct nat_eq variants.old.items }
+    requires few { length variants.old.items + 1 < 2 ^ 32 }
+    requires members { IsMemberList members.now }
+    ensures marked { OnOk result (AreMarked variants.new.items marks.new.items) }
+    ensures distinct { OnOk result (IsDistinct nat_eq variants.new.items) }
+    ensures next { IfOk result (λ next. (v : ℕ → ℕ) (touched : List ℕ) (i : ℕ) → IsRising touched → i < length touched
+        → slice_index touched i ≡ m → variant ≡ v m → IsAt v members.now touched i at → variants.old.items ≡ firsts v members.now at
+        → IsAt v members.now touched (i + 1) next × (variants.new.items ≡ firsts v members.now next)) }
+{
+    match index_of(members, m) {
+        Some(found) => {
+            add_originals(marks, variants, at, found)?;
+            add(marks, variants, variant)?;
+            Ok(found + 1)
+        }
+        None => Ok(at),
+    }
+}
+
+/// Returns the different variants of the members at the place, in order of the least member that
+/// has each. `marks` is room for a table by variant number, whose entries mean nothing before and
+/// afterwards.
+///
+/// It looks up each mutant that has a replacement at the place. All other members have variant 0,
+/// and aren't looked at: O(w log n) for w such mutants and n members.
+pub fn variants_in(
+    alloc: Global,
+    members: &[u32],
+    table: &Variants,
+    place: Place,
+    marks: &mut Vec<u32>,
+) -> Result<Vec<u32>, OutOfMemory>
+    requires { IsMemberList members.now }
+    ensures variants { IfOk result (λ variants. variants.items
+        ≡ map (λ m. variant_of table.now m place.0) (filter (is_class_leader (λ m. variant_of table.now m place.0) members.now) members.now)) }
+    ensures distinct { IfOk result (λ variants. IsDistinct nat_eq variants.items) }
+{
+    let mut variants = Vec::new(alloc);
+    let touched = table.mutants_at(place);
+    let mut at = 0;
+    for m in touched {
+        let variant = table.variant(*m, place);
+        at = visit(marks, &mut variants, members, at, *m, variant)?;
+    }
+    add_originals(marks, &mut variants, at, members.len())?;
+    Ok(variants)
+}
+
+/// The greatest of the numbers, and 0 where there is none.
+fn greatest(numbers: &[u32]) -> u32
+    ensures { All (λ n. n ≤ result) numbers.now }
+{
+    let mut top = 0;
+    for n in numbers {
+        top = top.max(*n);
+    }
+    top
+}
+
+/// Writes for each of these variants its class into the table, by the variant's number. The table
+/// grows where it must; its other entries mean nothing.
+pub fn write_classes(
+    table: &mut Vec<u32>,
+    variants: &[u32],
+    classes: &[u32],
+) -> Result<(), OutOfMemory>
+    requires distinct { IsDistinct nat_eq variants.now }
+    requires as_many { length classes.now ≡ length variants.now }
+    ensures { OnOk result (HasClasses variants.now classes.now table.new.items) }
+{
+    let top = greatest(variants);
+    widen(table, top as usize + 1)?;
+    for (at, v) in variants.iter().enumerate() {
+        table[*v as usize] = classes[at];
+    }
+    Ok(())
+}
+
+/// Members and the change that they make.
+#[derive(Drop)]
+pub struct Plan<C> {
+    pub members: Members,
+    pub change: C,
+}
+
+/// Forks the state once for each plan, from the last plan to the first. After a refusal the forks
+/// made so far are there.
+pub fn fork_plans<M: Machine>(
+    alloc: Global,
+    machine: &mut M,
+    s: &M::State,
+    plans: &mut Vec<Plan<M::Change>>,
+    children: &mut Vec<Child<M::State, M::Change>>,
+) -> Result<(), OutOfMemory>
+    requires out { M.view.is_out machine.old s.now }
+    requires empty { children.old.items ≡ [] }
+    requires room { vec_len plans.old + vec_len children.old ≤ vec_capacity children.old }
+    ensures plans { OnOk result (map planned_of children.new.items ≡ reverse (map (λ p. (p.members, p.change)) plans.old.items)) }
+    ensures empty { OnOk result (plans.new.items ≡ []) }
+    ensures forks { AreForksOf M.view machine.old s.now machine.new (states_of children.new.items) }
+    ensures counts { SameCounts (M.view.counts machine.old) (M.view.counts machine.new) }
+    ensures keeps { Keeps M.view machine.old machine.new [] }
+    ensures capacity { vec_capacity children.old ≤ vec_capacity children.new }
+    ensures len { vec_len children.new ≤ vec_len children.old + vec_len plans.old }
+{
+    while let Some(plan) = plans.pop() {
+        let state = machine.fork(alloc, s)?;
+        let Plan { members, change } = plan;
+        put(
+            children,
+            Child {
+                state,
+                members,
+                change,
+            },
+        );
+    }
+    Ok(())
+}
+
+/// Gives each part the change of its members, in the order of the parts: the k-th part has the k-th
+/// of the changes whose number is their own index.
+pub fn plans_for<C: Drop>(
+    alloc: Global,
+    mut parts: Items<Members>,
+    mut changes: Vec<C>,
+    numbers: &[u32],
+) -> Result<Vec<Plan<C>>, OutOfMemory>
+    requires numbers { length numbers.now ≡ length changes.items }
+    requires as_many { length parts ≡ length (own_firsts numbers.now 0 changes.items) }
+    ensures members { IfOk result (λ plans. map (λ p. p.members) plans.items ≡ parts) }
+    ensures changes { IfOk result (λ plans. map (λ p. p.change) plans.items ≡ own_firsts numbers.now 0 changes.items) }
+{
+    let mut plans = Vec::with_capacity(alloc, parts.len())?;
+    while let Some(change) = changes.pop() {
+        let at = changes.len();
+        if numbers[at] as usize == at {
+            let members = parts.pop().unwrap();
+            plans.push(Plan { members, change })?;
+        }
+    }
+    plans.reverse();
+    Ok(plans)
+}
+
+/// The least member of each plan's members.
+fn least_of<C>(alloc: Global, plans: &[Plan<C>]) -> Result<Items<u32>, OutOfMemory>
+    ensures { IfOk result (λ members. members ≡ map (λ p. slice_index p.members 0) plans.now) }
+{
+    let mut members = Vec::with_capacity(alloc, plans.len())?;
+    for plan in plans {
+        members.push(plan.members.least())?;
+    }
+    Ok(Items::from_vec(members))
+}
+
+/// Writes down that an execution is divided at this step, where there are two plans or more.
+pub fn note_split<C>(
+    alloc: Global,
+    step: u64,
+    plans: &[Plan<C>],
+    splits: &mut Vec<Split>,
+) -> Result<(), OutOfMemory>
+    ensures { OnOk result (map split_seen splits.new.items ≡ map split_seen splits.old.items
+        ++ (if nat_lt 1 (length plans.now) then (step, map (λ p. slice_index p.members 0) plans.now) ∷ [] else [])) }
+{
+    if plans.len() > 1 {
+        let parts = least_of(alloc, plans)?;
+        splits.push(Split { step, parts })?;
+    }
+    Ok(())
 }

@@ -1,7 +1,10 @@
+//! What an analysis gives.
+
 use am_lists::Items;
 use member_sets::Members;
 
-/// Mutants whose whole traces are equal, the state that they end in, and the length of their traces.
+/// Mutants whose whole traces are equal, the state that they end in, and the length of their
+/// traces.
 #[derive(Debug, Drop)]
 pub struct Class<S> {
     pub state: S,
@@ -16,8 +19,9 @@ pub struct Split {
     pub parts: Items<u32>,
 }
 
-/// What an analysis took. `steps` counts the distinct nonempty prefixes of the traces, `alone` the changes of all traces, `tries` the variants
-/// that were tried, and `executions` the distinct traces.
+/// What an analysis took. `steps` counts the distinct nonempty prefixes of the traces, `alone` the
+/// changes of all traces, `tries` the variants that were tried, and `executions` the distinct
+/// traces.
 #[derive(Clone, Copy, Debug, PartialEq, Eq)]
 pub struct Work {
     pub steps: u64,
@@ -26,7 +30,8 @@ pub struct Work {
     pub executions: u64,
 }
 
-/// What an analysis gives: the classes in order of least member, the splits in order of step, then of first part, and the work.
+/// What an analysis gives: the classes in order of least member, the splits in order of step, then
+/// of first part, and the work.
 #[derive(Debug, Drop)]
 pub struct Analysis<S> {
     pub classes: Items<Class<S>>,

@@ -1,20 +1,20 @@
-ghost use Rattle.std.specs.Prelude.{◌≡◌, ℕ, ◌+◌, ◌*◌, ◌^◌, ◌<◌, ◌≤◌, ◌++◌, [], IfOk, OnOk, OnErr};
+//! The turns of an analysis, from the start until no execution goes on.
+
+ghost use Rattle.std.specs.Prelude.{◌≡◌, ◌*◌, ◌^◌, ◌<◌, ◌≤◌, [], IfOk, OnOk, OnErr};
 ghost use Rattle.code_form.specs.Variant.{mutants_of};
-ghost use Rattle.traces.specs.Counts.{SameCounts};
+ghost use Rattle.traces.specs.Counts.{SameCounts, AreAtMost};
 ghost use Rattle.traces.specs.Together.{below};
 ghost use Rattle.exec_core.specs.Analysed.{IsGoing, IsStopped};
-ghost use Rattle.traces.specs.Counts.{AreAtMost};
 ghost use Rattle.exec_core.specs.Engines.{IsIdle, KeepsExecutions, HasRoomFor};
 ghost use Rattle.exec_core.specs.Held.{IsReleased};
 ghost use Rattle.exec_core.specs.Plans.{KnowsTable};
 ghost use Rattle.code_form.specs.Trial.{trial_of};
 
 use crate::engine::{Engine, make_room};
-use crate::lives::Live;
+use crate::execution::{Execution, settle};
 use crate::meter::Meter;
-use crate::pick::{arrange, take_turn};
-use crate::settle::settle;
-use am_base::OutOfMemory;
+use crate::pick::{arrange, rearrange, take_turn};
+use am_base::{MAX_BUDGET, MAX_MUTANTS, OutOfMemory};
 use code_form::Variants;
 use exec_machine::Machine;
 use member_sets::Members;
@@ -29,7 +29,7 @@ fn first_members<S, C>(
 ) -> Result<Members, OutOfMemory>
     ensures members { IfOk result (λ members. members ≡ below (mutants_of table.now)) }
     ensures some { 0 < mutants_of table.now }
-    ensures few { mutants_of table.now ≤ 65536 }
+    ensures few { mutants_of table.now ≤ MAX_MUTANTS }
     ensures room { OnOk result (HasRoomFor 1 engine.new) }
     ensures kept { KeepsExecutions engine.old engine.new }
     ensures splits { engine.new.splits.items ≡ engine.old.splits.items }
@@ -59,7 +59,7 @@ fn open<M: Machine>(
     requires alone { engine.old.alone ≡ 0 }
     requires idle { IsIdle engine.old }
     ensures some { 0 < mutants_of table.now }
-    ensures few { mutants_of table.now ≤ 65536 }
+    ensures few { mutants_of table.now ≤ MAX_MUTANTS }
     ensures going { OnOk result (IsGoing M.view (trial_of (M.view.meanings machine.old) table.now (M.view.stands machine.old start) budget)
         machine.old machine.new (M.view.number start) engine.new meter.now meter.now) }
     ensures idle { IsIdle engine.new }
@@ -73,7 +73,7 @@ fn open<M: Machine>(
             settle(
                 machine,
                 budget,
-                Live {
+                Execution {
                     step: 0,
                     members,
                     state: start,
@@ -109,7 +109,7 @@ pub fn run_all<M: Machine>(
     requires tries { engine.old.tries ≡ 0 }
     requires alone { engine.old.alone ≡ 0 }
     requires idle { IsIdle engine.old }
-    requires budget { budget ≤ 10000000 }
+    requires budget { budget ≤ MAX_BUDGET }
     requires known { KnowsTable (M.view.meanings machine.old) table.now }
     requires room { AreAtMost (3 * 2 ^ 61) (M.view.counts machine.old) }
     requires room_to_count { meter.old ≤ 3 * 2 ^ 61 }
@@ -123,11 +123,12 @@ pub fn run_all<M: Machine>(
 {
     open(alloc, machine, table, start, budget, engine, meter)?;
     let mut offers = Vec::new(alloc);
+    arrange(engine, &mut offers)?;
     'turns: while !engine.lives.is_empty() {
-        arrange(engine, &mut offers)?;
-        take_turn(
+        let at = take_turn(
             alloc, machine, table, budget, picker, &offers, engine, meter,
         )?;
+        rearrange(engine, &mut offers, at)?;
     }
     Ok(())
 }

@@ -1,6 +1,7 @@
-ghost use Rattle.std.specs.Prelude.{◌≡◌, ℕ, ◌+◌, ◌*◌, ◌^◌, ◌≤◌, ◌++◌, ◌∷◌, [], length, map, IfOk, OnOk, OnErr, vec_len, vec_capacity};
+//! The call that runs all mutants of a test together.
+
+ghost use Rattle.std.specs.Prelude.{◌≡◌, ◌+◌, ◌*◌, ◌^◌, ◌≤◌, ◌++◌, ◌∷◌, [], map, IfOk, OnOk, OnErr, vec_len, vec_capacity};
 ghost use Rattle.std.specs.List.Sorted.{IsPermutation};
-ghost use Rattle.code_form.specs.Variant.{mutants_of};
 ghost use Rattle.traces.specs.View.{Keeps};
 ghost use Rattle.traces.specs.Work.{steps, alone, tries, executions, splits};
 ghost use Rattle.exec_core.specs.Analysed.{IsGoing, IsStopped, AreClasses, class_numbers};
@@ -15,7 +16,7 @@ use crate::finish::{analysis_of, release_engine};
 use crate::meter::Meter;
 use crate::result::{Analysis, Class};
 use crate::run::run_all;
-use am_base::OutOfMemory;
+use am_base::{MAX_BUDGET, OutOfMemory};
 use code_form::Variants;
 use exec_machine::Machine;
 use picker::Picker;
@@ -39,7 +40,7 @@ fn run_to_end<M: Machine>(
     requires tries { engine.old.tries ≡ 0 }
     requires alone { engine.old.alone ≡ 0 }
     requires idle { IsIdle engine.old }
-    requires budget { budget ≤ 10000000 }
+    requires budget { budget ≤ MAX_BUDGET }
     requires known { KnowsTable (M.view.meanings machine.old) table.now }
     requires room { AreAtMost (3 * 2 ^ 61) (M.view.counts machine.old) }
     requires room_to_count { meter.old ≤ 3 * 2 ^ 61 }
@@ -57,17 +58,21 @@ fn run_to_end<M: Machine>(
     Ok(classes)
 }
 
-/// Runs all mutants of a table together from one start, each for at most `budget` changes, of which there are at most 10,000,000. An execution
-/// is divided only where the changes that its members make differ ("Faster Mutation Analysis via Equivalence Modulo States", ISSTA 2017).
+/// Runs all mutants of a table together from one start, each for at most `budget` changes, of which
+/// there are at most `MAX_BUDGET`. An execution is divided only where the changes that its members
+/// make differ ("Faster Mutation Analysis via Equivalence Modulo States", ISSTA 2017).
 ///
-/// The machine knows every variant of the table, and each of its counts and the meter stands at 3 * 2^61 at most. The start is used up.
+/// The machine knows every variant of the table, and each of its counts and the meter stands at 3 *
+/// 2^61 at most. The start is used up.
 ///
-/// The classes are the mutants with equal whole traces, each with the length of the trace and the state after it, which is out. The work and the
-/// splits are those of the model in `traces`, and the machine and the meter have counted exactly that work.
+/// The classes are the mutants with equal whole traces, each with the length of the trace and the
+/// state after it, which is out. The work and the splits are those of the model in `traces`, and
+/// the machine and the meter have counted exactly that work.
 ///
-/// It is refused only for want of memory. Then every state that it had out is released, the start included, and no count has risen by more than
-/// it would have. Whatever it answers, the meter has risen by one beside each change that was applied, and the other states that were out are
-/// out and stand for what they did.
+/// It is refused only for want of memory. Then every state that it had out is released, the start
+/// included, and no count has risen by more than it would have. Whatever it answers, the meter has
+/// risen by one beside each change that was applied, and the other states that were out are out and
+/// stand for what they did.
 pub fn analyse<M: Machine>(
     alloc: Global,
     machine: &mut M,
@@ -77,7 +82,7 @@ pub fn analyse<M: Machine>(
     picker: &mut Box<dyn Picker>,
     meter: &mut Meter,
 ) -> Result<Analysis<M::State>, OutOfMemory>
-    requires budget { budget ≤ 10000000 }
+    requires budget { budget ≤ MAX_BUDGET }
     requires out { M.view.is_out machine.old start }
     requires known { KnowsTable (M.view.meanings machine.old) variants.now }
     requires room { AreAtMost (3 * 2 ^ 61) (M.view.counts machine.old) }

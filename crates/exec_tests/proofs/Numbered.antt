@@ -17,7 +17,8 @@ pub record AreFew (t : Table) (at b : ℕ) : Type 0 where
 pub few_at_first : (t : Table) (at : ℕ) → ((m : ℕ) → chosen_by t m ≡ None) → ((q : ℕ) → replacements_at t q ≡ []) → AreFew t at 0
 few_at_first t at c r = record { few = rw (r at) (omega arith); each = λ m. rw (c m) (omega arith) }
 
-number_few : {original with : Instr} {before after : List Instr} {n : ℕ} (b : ℕ) → IsNumbered original before with n after → length before ≤ b → (n ≤ b + 1) × (length after ≤ b + 1)
+number_few : {original with : Instr} {before after : List Instr} {n : ℕ} (b : ℕ) → IsNumbered original before with n after → length before ≤ b → (n ≤ b + 1)
+    × (length after ≤ b + 1)
 number_few b (same e) l = (omega arith, omega arith)
 number_few {with = w} {before = is} b (known k ne e) l = let h = slice_get_within is k w e in (omega arith, omega arith)
 number_few {with = w} {before = is} b (fresh ne absent) l = (omega arith, let h = length-append is (w ∷ []) in omega arith)
@@ -25,15 +26,19 @@ number_few {with = w} {before = is} b (fresh ne absent) l = (omega arith, let h 
 at_itself : (at n : ℕ) → number_at (Some (at, n)) at ≡ n
 at_itself at n = rw (eq-eqb at at refl) refl
 
-pub few_more : (code : Code) (old new : Table) (m at : ℕ) (with : Instr) (b : ℕ) → Adds code old new m at with → m < mutants_of old → AreFew old at b → AreFew new at (b + 1)
+pub few_more : (code : Code) (old new : Table) (m at : ℕ) (with : Instr) (b : ℕ) → Adds code old new m at with → m < mutants_of old → AreFew old at b
+    → AreFew new at (b + 1)
 few_more code old new m at with b a l f =
     let p = number_few b a.numbered f.few in
     let chosen : chosen_by new m ≡ Some (at, a.number) =
-    (ap (λ (cs : List (Option (ℕ × ℕ))). unwrap_or (slice_get cs m) None) a.chosen ∙ unwrap_or-slice_get _ m None ∙ get_or-set_same old.chosen m (Some (at, a.number)) None l) in
+    (ap (λ (cs : List (Option (ℕ × ℕ))). unwrap_or (slice_get cs m) None) a.chosen ∙ unwrap_or-slice_get _ m None
+    ∙ get_or-set_same old.chosen m (Some (at, a.number)) None l) in
     record {
       few = p.1;
       each = λ n. ⊎_elim
-          (λ (e : n ≡ m). let h : variant_of new n at ≡ a.number = (ap (λ k. variant_of new k at) e ∙ ap (λ c. number_at c at) chosen ∙ at_itself at a.number) in let q = p.0 in omega arith)
-          (λ (ne : n ≢ m). let h : variant_of new n at ≡ variant_of old n at = ap (λ c. number_at c at) (chosen-adds code old new m at with a n ne) in let q = f.each n in omega arith)
+          (λ (e : n ≡ m). let h : variant_of new n at ≡ a.number = (ap (λ k. variant_of new k at) e ∙ ap (λ c. number_at c at) chosen
+          ∙ at_itself at a.number) in let q = p.0 in omega arith)
+          (λ (ne : n ≢ m). let h : variant_of new n at ≡ variant_of old n at = ap (λ c. number_at c at) (chosen-adds code old new m at with a n ne) in let q =
+          f.each n in omega arith)
           (cases_eq n m);
     }

@@ -1,3 +1,4 @@
+//! Sets of members, over a small table of replacements.
 ghost use Rattle.std.specs.Prelude.{◌≡◌, ℕ, ◌≤◌, length, IfOk};
 ghost use Rattle.code_form.specs.Variant.{variant_of};
 

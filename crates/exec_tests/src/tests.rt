@@ -1,8 +1,10 @@
+//! The engine over the toy machine.
 ghost use Rattle.std.specs.Prelude.{◌≡◌, ℕ, ◌≤◌, length, nat_eq, IfOk};
 ghost use Rattle.std.specs.List.{All, IsDistinct};
 ghost use Rattle.code_form.specs.Variant.{mutants_of, chosen_by};
 ghost use Rattle.exec_core.specs.Analysed.{class_numbers};
 
+use crate::tape::Tape;
 use am_base::OutOfMemory;
 use am_lists::Items;
 use code_form::{Code, Instr, Operand, Place, Variants};
@@ -139,6 +141,46 @@ fn run_toy(
         applied: toy.applied(),
         weighed: toy.weighed(),
         asked: toy.asked(),
+        metered: meter.steps(),
+    })
+}
+
+/// Three mutants: mutant 1 has a replacement at place 0, mutant 2 at place 2.
+fn three_mutants(alloc: Global, code: &Code) -> Result<Variants, OutOfMemory>
+    requires { length code.now.instrs ≡ 3 }
+{
+    let mut table = Variants::new(alloc, 3)?;
+    table.add(alloc, code, 1, Place(0), freeze(8))?;
+    table.add(alloc, code, 2, Place(2), freeze(8))?;
+    Ok(table)
+}
+
+/// Runs the machine that writes three numbers.
+fn run_tape(
+    alloc: Global,
+    table: &Variants,
+    picker: &mut Box<dyn Picker>,
+) -> Result<Trial, OutOfMemory> {
+    let mut tape = Tape::new(alloc, 3);
+    let start = tape.start(alloc)?;
+    let mut meter = Meter::new();
+    let analysis = analyse(alloc, &mut tape, table, start, 10, picker, &mut meter)?;
+    let Analysis {
+        classes,
+        splits,
+        work,
+    } = analysis;
+    let mut kept = Vec::new(alloc);
+    release_all(&mut tape, classes, &mut kept);
+    kept.reverse();
+    Ok(Trial {
+        classes: kept,
+        splits,
+        work,
+        tried: tape.tried(),
+        applied: tape.applied(),
+        weighed: 0,
+        asked: 0,
         metered: meter.steps(),
     })
 }
@@ -293,5 +335,27 @@ fn thousand_mutants_within_a_thousand(rt: HostRuntime) -> Result<(), Fail> {
     assert!(rt; has_class(&trial, 100, &[999], 1000));
     assert!(rt; has_split(&trial, 0, 900, &[0, 900]));
     assert!(rt; has_split(&trial, 99, 999, &[0, 999]));
+    Ok(())
+}
+
+#[test]
+fn states_that_apply_pushes_onto(rt: HostRuntime) -> Result<(), Fail> {
+    // Mutant 0 writes 0, 0, 0, mutant 1 writes 1, 1, 1, and mutant 2 writes 0, 0, 1. Two variants
+    // are tried at the first place and by the execution of 0 and 2 at the last, else one.
+    let code = plain_code(rt.alloc(), 3)?;
+    let table = three_mutants(rt.alloc(), &code)?;
+    let mut picker: Box<dyn Picker> = Box::new(rt.alloc(), DepthFirst::new())?;
+    let trial = run_tape(rt.alloc(), &table, &mut picker)?;
+    let work = trial.work;
+    assert_eq!(rt;
+        (work.steps, work.alone, work.tries, work.executions),
+        (7, 9, 7, 3)
+    );
+    assert_eq!(rt; (trial.tried, trial.applied, trial.metered), (7, 7, 7));
+    assert!(rt; has_class(&trial, 0, &[0], 3));
+    assert!(rt; has_class(&trial, 1, &[1], 3));
+    assert!(rt; has_class(&trial, 2, &[2], 3));
+    assert!(rt; has_split(&trial, 0, 0, &[0, 1]));
+    assert!(rt; has_split(&trial, 1, 2, &[0, 2]));
     Ok(())
 }

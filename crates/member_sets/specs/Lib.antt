@@ -1,1 +1,3 @@
 pub mod Members
+pub mod Marks
+pub mod Filed

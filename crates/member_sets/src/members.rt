@@ -1,49 +1,52 @@
-ghost use Rattle.std.specs.Prelude.{◌≡◌, ℕ, ◌<◌, ◌≤◌, ◌↔◌, ◌==◌, not, List, length, take, map, slice_index, IsTrue, IfOk};
-ghost use Rattle.std.specs.List.{All, Contains, filter, list_any};
+//! The mutants of an execution as a rising list.
+ghost use Rattle.std.specs.Prelude.{◌≡◌, ℕ, ◌<◌, ◌≤◌, ◌↔◌, List, length, map, slice_index, IsTrue, IfOk};
+ghost use Rattle.std.specs.List.{All, Contains};
 ghost use Rattle.std.specs.List.Sorted.{IsStrictlyIncreasing};
 ghost use Rattle.traces.specs.Together.{below};
 ghost use Rattle.code_form.specs.Variant.{variant_of};
 ghost use Rattle.member_sets.specs.Members.{IsMemberList, class_at, parts_by};
 
-use am_base::OutOfMemory;
+use crate::split::lists_by;
+use am_base::{MAX_MUTANTS, OutOfMemory};
 use am_lists::Items;
 use code_form::{Place, Variants};
 use std::alloc::Global;
 use std::marker::Model;
+use std::rc::Rc;
 
-/// A set of mutant numbers that isn't empty, seen as the rising list of them. It has at most 65,536 members.
+/// A set of mutant numbers that isn't empty, seen as the rising list of them. It has at most
+/// `MAX_MUTANTS` members.
 #[derive(Debug, Drop)]
 pub struct Members {
-    list: Items<u32>,
+    list: Rc<Items<u32>>,
 }
 
 impl Model for Members {
     ghost Value = { List ℕ };
 
-    ghost view = { λ members. members.list };
+    ghost view = { λ members. members.list.value };
 
-    ghost invariant = { λ members. IsMemberList members.list };
+    ghost invariant = { λ members. IsMemberList members.list.value };
 }
 
 impl Members {
-    /// The set of the numbers below `n`, which is from 1 to 65,536.
+    /// The set of the numbers below `n`, which is from 1 to `MAX_MUTANTS`.
     pub fn all(alloc: Global, n: u32) -> Result<Members, OutOfMemory>
         requires some { 1 ≤ n }
-        requires few { n ≤ 65536 }
+        requires few { n ≤ MAX_MUTANTS }
         ensures { IfOk result (λ members. members ≡ below n) }
     {
         let mut list = Vec::with_capacity(alloc, n as usize)?;
         for m in 0..n {
             list.push(m)?;
         }
-        Ok(Members {
-            list: Items::from_vec(list),
-        })
+        from_list(alloc, Items::from_vec(list))
     }
 
     /// The parts of the set by the classes of its members, in order of their least members.
     ///
-    /// `class_of` has the class of each variant number that a member has at the place. The set itself is unchanged.
+    /// `class_of` has the class of each variant number that a member has at the place. The set
+    /// itself is unchanged.
     pub fn split_by(
         &self,
         alloc: Global,
@@ -54,18 +57,10 @@ impl Members {
         requires { All (λ m. variant_of table.now m place.0 < length class_of.now) self.now }
         ensures { IfOk result (λ parts. parts ≡ parts_by (class_at (variant_of table.now) place.0 class_of.now) self.now) }
     {
-        let members = self.list.as_slice();
+        let members = self.as_slice();
         let classes = classes_at(alloc, members, table, place, class_of)?;
-        let mut parts = Vec::new(alloc);
-        for at in 0..members.len() {
-            if is_first(&classes, at) {
-                let part = part_with(alloc, members, &classes, classes[at])?;
-                parts.push(Members {
-                    list: Items::from_vec(part),
-                })?;
-            }
-        }
-        Ok(Items::from_vec(parts))
+        let lists = lists_by(alloc, members, &classes)?;
+        sets_of(alloc, &lists)
     }
 
     /// The least member.
@@ -74,14 +69,14 @@ impl Members {
         ensures least { All (λ m. result ≤ m) self.now }
         ensures first { result ≡ slice_index self.now 0 }
     {
-        self.list.as_slice()[0]
+        self.as_slice()[0]
     }
 
     /// How many members there are.
     pub fn len(&self) -> u32
         ensures value { result ≡ length self.now }
         ensures some { 1 ≤ result }
-        ensures few { result ≤ 65536 }
+        ensures few { result ≤ MAX_MUTANTS }
     {
         self.list.len() as u32
     }
@@ -90,7 +85,23 @@ impl Members {
     pub fn has(&self, m: u32) -> bool
         ensures { IsTrue result ↔ Contains self.now m }
     {
-        self.list.as_slice().binary_search(&m).is_ok()
+        self.as_slice().binary_search(&m).is_ok()
+    }
+
+    /// Returns the same set once more. It takes no memory, and may be refused all the same. O(1).
+    pub fn share(&self) -> Result<Members, OutOfMemory>
+        ensures { IfOk result (λ members. members ≡ self.now) }
+    {
+        let list = self.list.clone()?;
+        Ok(Members { list })
+    }
+
+    /// Returns the members, rising. O(1).
+    pub fn as_slice(&self) -> &[u32]
+        ensures members { result.now ≡ self.now }
+        ensures list { IsMemberList self.now }
+    {
+        self.list.as_slice()
     }
 
     /// The members, rising.
@@ -100,6 +111,16 @@ impl Members {
     {
         Ok(self.list.copy(alloc)?)
     }
+}
+
+/// Returns the set of these numbers.
+fn from_list(alloc: Global, list: Items<u32>) -> Result<Members, OutOfMemory>
+    requires { IsMemberList list }
+    ensures { IfOk result (λ members. members ≡ list) }
+{
+    Ok(Members {
+        list: Rc::new(alloc, list)?,
+    })
 }
 
 /// The class of each member's variant at the place.
@@ -121,29 +142,15 @@ fn classes_at(
     Ok(classes)
 }
 
-/// Whether no earlier member has the class of the member at this index.
-fn is_first(classes: &[u32], at: usize) -> bool
-    requires { at < length classes.now }
-    ensures { result ≡ not (list_any (λ class. class == slice_index classes.now at) (take at classes.now)) }
+/// Returns the sets of these lists of members.
+fn sets_of(alloc: Global, lists: &[Items<u32>]) -> Result<Items<Members>, OutOfMemory>
+    requires { All IsMemberList lists.now }
+    ensures { IfOk result (λ sets. sets ≡ lists.now) }
 {
-    !classes[..at].contains(&classes[at])
-}
-
-/// The members of one class.
-fn part_with(
-    alloc: Global,
-    members: &[u32],
-    classes: &[u32],
-    class: u32,
-) -> Result<Vec<u32>, OutOfMemory>
-    requires { length classes.now ≡ length members.now }
-    ensures { IfOk result (λ part. (class_of : ℕ → ℕ) → classes.now ≡ map class_of members.now → part.items ≡ filter (λ m. class == class_of m) members.now) }
-{
-    let mut part = Vec::new(alloc);
-    for (at, m) in members.iter().enumerate() {
-        if classes[at] == class {
-            part.push(*m)?;
-        }
+    let mut sets = Vec::with_capacity(alloc, lists.len())?;
+    for list in lists {
+        let list = list.copy(alloc)?;
+        sets.push(from_list(alloc, list)?)?;
     }
-    Ok(part)
+    Ok(Items::from_vec(sets))
 }

@@ -1,5 +1,5 @@
 use Rattle.std.proofs.Common.{arith, ◌∙◌, ap}
-use Rattle.exec_core.specs.Pieces.{weights_of}
+use Rattle.exec_core.specs.Children.{weights_of}
 use Rattle.exec_core.specs.Plans.{plans_of}
 use Rattle.exec_core.proofs.PrepareLemmas.{weights_are}
 use Rattle.exec_core.proofs.DivideLemmas.{divided, as_many}
@@ -24,8 +24,9 @@ apply_all-requires-clause-room_to_weigh g c =
 
 pub returns-in-Ok-clause-divided : goal.returns-in-Ok-clause-divided
 returns-in-Ok-clause-divided g c =
-    divided g.M.Machine.view g.met.M.Machine.lawful c.args.machine.now c.prepare.new.machine c.apply_all.new.machine c.args.e (plans_of c.args.plans.now.items) c.prepare.new.readied.items c.args.lives.now.items c.apply_all.new.lives.items
-    c.in-Ok.ensures.prepared c.apply_all.ensures.pieces
+    divided g.M.Machine.view g.met.M.Machine.lawful c.args.machine.now c.prepare.new.machine c.apply_all.new.machine c.args.e
+    (plans_of c.args.plans.now.items) c.prepare.new.readied.items c.args.lives.now.items c.apply_all.new.lives.items
+    c.in-Ok.ensures.prepared c.apply_all.ensures.children
 
 pub returns-in-Ok-clause-applied : goal.returns-in-Ok-clause-applied
 returns-in-Ok-clause-applied g c =

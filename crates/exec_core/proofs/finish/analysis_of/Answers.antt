@@ -8,10 +8,12 @@ use Rattle.exec_core.proofs.finish.analysis_of.Goals as goal
 
 pub returns-clause-moved : goal.returns-clause-moved
 returns-clause-moved g c = subst (IsPermutation (map class_from c.args.engine.ended.items)) (sym c.from_vec.ensures)
-    (IsPermutation-trans (map class_from c.args.engine.ended.items) c.move_classes.new.classes.items c.sort_classes.new.classes.items c.move_classes.ensures.moved c.sort_classes.ensures.moved)
+    (IsPermutation-trans (map class_from c.args.engine.ended.items) c.move_classes.new.classes.items c.sort_classes.new.classes.items
+    c.move_classes.ensures.moved c.sort_classes.ensures.moved)
 
 pub returns-clause-rising : goal.returns-clause-rising
-returns-clause-rising g c = subst (IsNonDecreasingBy (λ (x : Class g.row.S.Denot). slice_index x.members 0)) (sym c.from_vec.ensures) c.sort_classes.ensures.rising
+returns-clause-rising g c = subst (IsNonDecreasingBy (λ (x : Class g.row.S.Denot). slice_index x.members 0))
+    (sym c.from_vec.ensures) c.sort_classes.ensures.rising
 
 pub returns-clause-splits : goal.returns-clause-splits
 returns-clause-splits g c ordered p h = ap (map split_seen) c.from_vec-2.ensures ∙ c.sort_splits.ensures ordered p h

@@ -1,6 +1,5 @@
-use Rattle.std.proofs.Common.{rules, ◌≡◌, ◌<◌, ◌==◌, false, vec_len, arith, ap, ◌∙◌, subst}
+use Rattle.std.proofs.Common.{rules, ◌≡◌, ◌==◌, false, vec_len, length, arith, ap, ◌∙◌, subst}
 use Rattle.std.proofs.lemmas.Bool.Decides.{nat_tests}
-use Rattle.std.proofs.lemmas.List.Sorted.{length_permutation}
 use Rattle.code_form.specs.Variant.{variant_of}
 use Rattle.traces.specs.Meanings.{Meanings}
 use Rattle.code_form.specs.Trial.{trial_of}
@@ -15,91 +14,144 @@ pub returns-in_err-open-clause-stopped : goal.returns-in_err-open-clause-stopped
 returns-in_err-open-clause-stopped g c =
     let e = c.in_err-open.ensures in
     on_err c.from_residual.result
-    (none_opened g.M.Machine.view g.met.M.Machine.lawful c.args.machine.now c.args.table.now c.args.start c.args.budget c.open.new.engine c.args.meter.now c.open.new.machine e.err e.counts e.err_lives e.err_ended)
+    (none_opened g.M.Machine.view g.met.M.Machine.lawful c.args.machine.now c.args.table.now c.args.start c.args.budget c.open.new.engine c.args.meter.now
+    c.open.new.machine e.err e.counts e.err_lives e.err_ended)
 
 pub take_turn-requires-clause-held : goal.take_turn-requires-clause-held
 take_turn-requires-clause-held g c =
     let V = g.M.Machine.view in let m = c.args.machine.now in let w = V.stands m c.args.start in let n = V.number c.args.start in let i = c.turns in
-    let go = going_arranged V (trial_of (V.meanings m) c.args.table.now w c.args.budget) m i.machine n c.args.meter.now i.meter i.engine c.arrange.new.engine c.arrange.ensures.arranged i.invariant.going in
-    are_held V g.met.M.Machine.lawful m i.machine c.args.table.now w c.args.budget n c.arrange.new.engine c.args.meter.now i.meter c.in_ok-open.ensures.few c.requires.budget c.requires.known go (g.met.M.Machine.lawful.among m c.args.start c.requires.out)
+    let go = i.invariant.going in
+    are_held V g.met.M.Machine.lawful m i.machine c.args.table.now w c.args.budget n i.engine c.args.meter.now i.meter c.in_ok-open.ensures.few
+    c.requires.budget c.requires.known go (g.met.M.Machine.lawful.among m c.args.start c.requires.out)
+
+pub turns-init : goal.turns-init
+turns-init g c =
+    let V = g.M.Machine.view in let m = c.args.machine.now in let w = V.stands m c.args.start in let n = V.number c.args.start in
+    record {
+      going = going_arranged V (trial_of (V.meanings m) c.args.table.now w c.args.budget) m c.open.new.machine n c.args.meter.now c.args.meter.now
+          c.open.new.engine c.arrange.new.engine c.arrange.ensures.arranged c.in_ok-open.ensures.going;
+      idle = c.arrange.ensures.arranged.idle c.in_ok-open.ensures.idle;
+      offered = c.in_ok-arrange.ensures.offered;
+    }
 
 pub take_turn-requires-clause-some : goal.take_turn-requires-clause-some
 take_turn-requires-clause-some g c =
-    let E = c.turns.engine in let F = c.arrange.new.engine in
+    let E = c.turns.engine in
     let none : (vec_len E.lives == 0) ≡ false = search rules in
-    let some : 0 < vec_len E.lives = grind (arith, nat_tests) in
-    let same = length_permutation E.lives.items F.lives.items c.arrange.ensures.arranged.moved in
-    omega (arith, some, same, E.lives.ok.0, F.lives.ok.0)
-
-pub take_turn-requires-clause-idle : goal.take_turn-requires-clause-idle
-take_turn-requires-clause-idle g c =
-    let V = g.M.Machine.view in let m = c.args.machine.now in let w = V.stands m c.args.start in let n = V.number c.args.start in let i = c.turns in
-    let go = going_arranged V (trial_of (V.meanings m) c.args.table.now w c.args.budget) m i.machine n c.args.meter.now i.meter i.engine c.arrange.new.engine c.arrange.ensures.arranged i.invariant.going in
-    c.arrange.ensures.arranged.idle i.invariant.idle
+    grind (arith, nat_tests)
 
 pub take_turn-requires-clause-known : goal.take_turn-requires-clause-known
-take_turn-requires-clause-known g c m p = ap (λ (A : Meanings g.M.Machine.Meaning g.row.M-Change.Denot). A.knows p (variant_of c.args.table.now m p)) c.turns.invariant.going.keeps.meanings ∙ c.requires.known m p
+take_turn-requires-clause-known g c m p = ap (λ (A : Meanings g.M.Machine.Meaning g.row.M-Change.Denot). A.knows p (variant_of c.args.table.now m p))
+    c.turns.invariant.going.keeps.meanings ∙ c.requires.known m p
 
 pub take_turn-requires-clause-room : goal.take_turn-requires-clause-room
 take_turn-requires-clause-room g c =
     let V = g.M.Machine.view in let m = c.args.machine.now in let w = V.stands m c.args.start in let n = V.number c.args.start in let i = c.turns in
-    let go = going_arranged V (trial_of (V.meanings m) c.args.table.now w c.args.budget) m i.machine n c.args.meter.now i.meter i.engine c.arrange.new.engine c.arrange.ensures.arranged i.invariant.going in
-    room_left V g.met.M.Machine.lawful m i.machine c.args.table.now w c.args.budget n c.arrange.new.engine c.args.meter.now i.meter c.in_ok-open.ensures.few c.requires.budget c.requires.known go c.requires.room
+    let go = i.invariant.going in
+    room_left V g.met.M.Machine.lawful m i.machine c.args.table.now w c.args.budget n i.engine c.args.meter.now i.meter c.in_ok-open.ensures.few
+    c.requires.budget c.requires.known go c.requires.room
 
 pub take_turn-requires-clause-room_to_count : goal.take_turn-requires-clause-room_to_count
 take_turn-requires-clause-room_to_count g c =
     let V = g.M.Machine.view in let m = c.args.machine.now in let w = V.stands m c.args.start in let n = V.number c.args.start in let i = c.turns in
-    let go = going_arranged V (trial_of (V.meanings m) c.args.table.now w c.args.budget) m i.machine n c.args.meter.now i.meter i.engine c.arrange.new.engine c.arrange.ensures.arranged i.invariant.going in
-    meter_left V g.met.M.Machine.lawful m i.machine c.args.table.now w c.args.budget n c.arrange.new.engine c.args.meter.now i.meter c.in_ok-open.ensures.few c.requires.budget c.requires.known go c.requires.room_to_count
+    let go = i.invariant.going in
+    meter_left V g.met.M.Machine.lawful m i.machine c.args.table.now w c.args.budget n i.engine c.args.meter.now i.meter c.in_ok-open.ensures.few
+    c.requires.budget c.requires.known go c.requires.room_to_count
 
 pub take_turn-requires-clause-tries : goal.take_turn-requires-clause-tries
 take_turn-requires-clause-tries g c =
     let V = g.M.Machine.view in let m = c.args.machine.now in let w = V.stands m c.args.start in let n = V.number c.args.start in let i = c.turns in
-    let go = going_arranged V (trial_of (V.meanings m) c.args.table.now w c.args.budget) m i.machine n c.args.meter.now i.meter i.engine c.arrange.new.engine c.arrange.ensures.arranged i.invariant.going in
-    tries_left V g.met.M.Machine.lawful m i.machine c.args.table.now w c.args.budget n c.arrange.new.engine c.args.meter.now i.meter c.in_ok-open.ensures.few c.requires.budget c.requires.known go
+    let go = i.invariant.going in
+    tries_left V g.met.M.Machine.lawful m i.machine c.args.table.now w c.args.budget n i.engine c.args.meter.now i.meter c.in_ok-open.ensures.few
+    c.requires.budget c.requires.known go
 
 pub take_turn-requires-clause-alone : goal.take_turn-requires-clause-alone
 take_turn-requires-clause-alone g c =
     let V = g.M.Machine.view in let m = c.args.machine.now in let w = V.stands m c.args.start in let n = V.number c.args.start in let i = c.turns in
-    let go = going_arranged V (trial_of (V.meanings m) c.args.table.now w c.args.budget) m i.machine n c.args.meter.now i.meter i.engine c.arrange.new.engine c.arrange.ensures.arranged i.invariant.going in
-    alone_left V g.met.M.Machine.lawful m i.machine c.args.table.now w c.args.budget n c.arrange.new.engine c.args.meter.now i.meter c.in_ok-open.ensures.few c.requires.budget c.requires.known go
+    let go = i.invariant.going in
+    alone_left V g.met.M.Machine.lawful m i.machine c.args.table.now w c.args.budget n i.engine c.args.meter.now i.meter c.in_ok-open.ensures.few
+    c.requires.budget c.requires.known go
 
 pub turns-preserved : goal.turns-preserved
 turns-preserved g c =
     let V = g.M.Machine.view in let m = c.args.machine.now in let w = V.stands m c.args.start in let n = V.number c.args.start in let i = c.turns in
-    let go = going_arranged V (trial_of (V.meanings m) c.args.table.now w c.args.budget) m i.machine n c.args.meter.now i.meter i.engine c.arrange.new.engine c.arrange.ensures.arranged i.invariant.going in
-    let t = c.in_ok-take_turn.ensures.took w in
-    let turned = subst (λ (A : Meanings g.M.Machine.Meaning g.row.M-Change.Denot). Turned V (trial_of A c.args.table.now w c.args.budget) i.machine c.take_turn.new.machine t.at c.arrange.new.engine c.take_turn.new.engine i.meter c.take_turn.new.meter)
+    let go = i.invariant.going in
+    let t = c.in_ok-at.ensures.took w in
+    let turned = subst (λ (A : Meanings g.M.Machine.Meaning g.row.M-Change.Denot). Turned V
+    (trial_of A c.args.table.now w c.args.budget) i.machine c.take_turn.new.machine t.at i.engine c.take_turn.new.engine i.meter c.take_turn.new.meter)
     i.invariant.going.keeps.meanings t.turned in
-    record { going = going_more V g.met.M.Machine.lawful m i.machine c.args.table.now w c.args.budget n c.arrange.new.engine c.args.meter.now i.meter c.in_ok-open.ensures.few c.requires.budget c.requires.known go (g.met.M.Machine.lawful.among m c.args.start c.requires.out) c.take_turn.new.machine t.at c.take_turn.new.engine c.take_turn.new.meter c.in_ok-take_turn.ensures.held c.in_ok-take_turn.ensures.keeps turned; idle = c.in_ok-take_turn.ensures.idle }
+    let going = going_more V g.met.M.Machine.lawful m i.machine c.args.table.now w c.args.budget n i.engine c.args.meter.now i.meter c.in_ok-open.ensures.few
+    c.requires.budget c.requires.known go (g.met.M.Machine.lawful.among m c.args.start c.requires.out) c.take_turn.new.machine t.at c.take_turn.new.engine
+    c.take_turn.new.meter c.in_ok-at.ensures.held c.in_ok-at.ensures.keeps turned in
+    record {
+      going = going_arranged V (trial_of (V.meanings m) c.args.table.now w c.args.budget) m c.take_turn.new.machine n c.args.meter.now c.take_turn.new.meter
+          c.take_turn.new.engine c.rearrange.new.engine c.rearrange.ensures.arranged going;
+      idle = c.rearrange.ensures.arranged.idle c.in_ok-at.ensures.idle;
+      offered = c.in_ok-rearrange.ensures.offered i.engine.lives.items i.invariant.offered c.in_ok-at.ensures.replaced;
+    }
 
 pub turns-smaller : goal.turns-smaller
 turns-smaller g c =
     let V = g.M.Machine.view in let m = c.args.machine.now in let w = V.stands m c.args.start in let n = V.number c.args.start in let i = c.turns in
-    let go = going_arranged V (trial_of (V.meanings m) c.args.table.now w c.args.budget) m i.machine n c.args.meter.now i.meter i.engine c.arrange.new.engine c.arrange.ensures.arranged i.invariant.going in
-    let t = c.in_ok-take_turn.ensures.took w in
-    let turned = subst (λ (A : Meanings g.M.Machine.Meaning g.row.M-Change.Denot). Turned V (trial_of A c.args.table.now w c.args.budget) i.machine c.take_turn.new.machine t.at c.arrange.new.engine c.take_turn.new.engine i.meter c.take_turn.new.meter)
+    let go = i.invariant.going in
+    let t = c.in_ok-at.ensures.took w in
+    let turned = subst (λ (A : Meanings g.M.Machine.Meaning g.row.M-Change.Denot). Turned V
+    (trial_of A c.args.table.now w c.args.budget) i.machine c.take_turn.new.machine t.at i.engine c.take_turn.new.engine i.meter c.take_turn.new.meter)
     i.invariant.going.keeps.meanings t.turned in
-    let l = closer V g.met.M.Machine.lawful m i.machine c.args.table.now w c.args.budget n c.arrange.new.engine c.args.meter.now i.meter c.in_ok-open.ensures.few c.requires.budget c.requires.known go (g.met.M.Machine.lawful.among m c.args.start c.requires.out) c.take_turn.new.machine t.at c.take_turn.new.engine c.take_turn.new.meter c.in_ok-take_turn.ensures.held c.in_ok-take_turn.ensures.keeps turned in let o = owed V g.met.M.Machine.lawful m i.machine c.args.table.now w c.args.budget n c.arrange.new.engine c.args.meter.now i.meter c.in_ok-open.ensures.few c.requires.budget c.requires.known go (g.met.M.Machine.lawful.among m c.args.start c.requires.out) c.take_turn.new.machine t.at c.take_turn.new.engine c.take_turn.new.meter c.in_ok-take_turn.ensures.held c.in_ok-take_turn.ensures.keeps turned in
-    let s = as_far V (trial_of (V.meanings m) c.args.table.now w c.args.budget) m i.machine n c.args.meter.now i.meter i.engine c.arrange.new.engine c.arrange.ensures.arranged in
+    let l = closer V g.met.M.Machine.lawful m i.machine c.args.table.now w c.args.budget n i.engine c.args.meter.now i.meter c.in_ok-open.ensures.few
+    c.requires.budget c.requires.known go (g.met.M.Machine.lawful.among m c.args.start c.requires.out) c.take_turn.new.machine t.at c.take_turn.new.engine
+    c.take_turn.new.meter c.in_ok-at.ensures.held c.in_ok-at.ensures.keeps turned in let o =
+    owed V g.met.M.Machine.lawful m i.machine c.args.table.now w c.args.budget n i.engine c.args.meter.now i.meter c.in_ok-open.ensures.few
+    c.requires.budget c.requires.known go (g.met.M.Machine.lawful.among m c.args.start c.requires.out) c.take_turn.new.machine t.at
+    c.take_turn.new.engine c.take_turn.new.meter c.in_ok-at.ensures.held c.in_ok-at.ensures.keeps turned in
+    let s = as_far V (trial_of (V.meanings m) c.args.table.now w c.args.budget) m c.take_turn.new.machine n c.args.meter.now c.take_turn.new.meter
+    c.take_turn.new.engine
+    c.rearrange.new.engine c.rearrange.ensures.arranged in
     omega (arith, l, o, s)
 
 pub returns-in_err-arrange-clause-stopped : goal.returns-in_err-arrange-clause-stopped
 returns-in_err-arrange-clause-stopped g c =
-    let V = g.M.Machine.view in let m = c.args.machine.now in let w = V.stands m c.args.start in let n = V.number c.args.start in let i = c.turns in
-    let go = going_arranged V (trial_of (V.meanings m) c.args.table.now w c.args.budget) m i.machine n c.args.meter.now i.meter i.engine c.arrange.new.engine c.arrange.ensures.arranged i.invariant.going in
+    let V = g.M.Machine.view in let m = c.args.machine.now in let w = V.stands m c.args.start in let n = V.number c.args.start in
+    let go = going_arranged V (trial_of (V.meanings m) c.args.table.now w c.args.budget) m c.open.new.machine n c.args.meter.now c.args.meter.now
+    c.open.new.engine c.arrange.new.engine c.arrange.ensures.arranged c.in_ok-open.ensures.going in
     on_err c.from_residual-in_err-arrange.result
-    (going_stops V g.met.M.Machine.lawful m i.machine c.args.table.now w c.args.budget n c.arrange.new.engine c.args.meter.now i.meter go)
-
-pub returns-in_err-take_turn-clause-stopped : goal.returns-in_err-take_turn-clause-stopped
-returns-in_err-take_turn-clause-stopped g c =
-    let V = g.M.Machine.view in let m = c.args.machine.now in let w = V.stands m c.args.start in let n = V.number c.args.start in let i = c.turns in
-    let go = going_arranged V (trial_of (V.meanings m) c.args.table.now w c.args.budget) m i.machine n c.args.meter.now i.meter i.engine c.arrange.new.engine c.arrange.ensures.arranged i.invariant.going in
-    let r = c.in_err-take_turn.ensures.refused w in
-    on_err c.from_residual-in_err-take_turn.result
-    (refused_stops V g.met.M.Machine.lawful m i.machine c.args.table.now w c.args.budget n c.arrange.new.engine c.args.meter.now i.meter c.in_ok-open.ensures.few c.requires.budget c.requires.known go (g.met.M.Machine.lawful.among m c.args.start c.requires.out) c.take_turn.new.machine r.at c.take_turn.new.engine c.take_turn.new.meter c.take_turn.ensures.held c.take_turn.ensures.keeps
-    (subst (λ (A : Meanings g.M.Machine.Meaning g.row.M-Change.Denot). Refused V (trial_of A c.args.table.now w c.args.budget) i.machine c.take_turn.new.machine r.at c.arrange.new.engine c.take_turn.new.engine i.meter c.take_turn.new.meter)
-    i.invariant.going.keeps.meanings r.refused))
+    (going_stops V g.met.M.Machine.lawful m c.open.new.machine c.args.table.now w c.args.budget n c.arrange.new.engine c.args.meter.now c.args.meter.now go)
 
 pub returns-in_err-arrange-clause-idle : goal.returns-in_err-arrange-clause-idle
-returns-in_err-arrange-clause-idle g c = c.arrange.ensures.arranged.idle c.turns.invariant.idle
+returns-in_err-arrange-clause-idle g c = c.arrange.ensures.arranged.idle c.in_ok-open.ensures.idle
+
+pub returns-in_err-rearrange-clause-stopped : goal.returns-in_err-rearrange-clause-stopped
+returns-in_err-rearrange-clause-stopped g c =
+    let V = g.M.Machine.view in let m = c.args.machine.now in let w = V.stands m c.args.start in let n = V.number c.args.start in let i = c.turns in
+    let go = i.invariant.going in
+    let t = c.in_ok-at.ensures.took w in
+    let turned = subst (λ (A : Meanings g.M.Machine.Meaning g.row.M-Change.Denot). Turned V
+    (trial_of A c.args.table.now w c.args.budget) i.machine c.take_turn.new.machine t.at i.engine c.take_turn.new.engine i.meter c.take_turn.new.meter)
+    i.invariant.going.keeps.meanings t.turned in
+    let going = going_more V g.met.M.Machine.lawful m i.machine c.args.table.now w c.args.budget n i.engine c.args.meter.now i.meter c.in_ok-open.ensures.few
+    c.requires.budget c.requires.known go (g.met.M.Machine.lawful.among m c.args.start c.requires.out) c.take_turn.new.machine t.at c.take_turn.new.engine
+    c.take_turn.new.meter c.in_ok-at.ensures.held c.in_ok-at.ensures.keeps turned in
+    let after = going_arranged V (trial_of (V.meanings m) c.args.table.now w c.args.budget) m c.take_turn.new.machine n c.args.meter.now c.take_turn.new.meter
+    c.take_turn.new.engine c.rearrange.new.engine c.rearrange.ensures.arranged going in
+    on_err c.from_residual-in_err-rearrange.result
+    (going_stops V g.met.M.Machine.lawful m c.take_turn.new.machine c.args.table.now w c.args.budget n c.rearrange.new.engine c.args.meter.now
+    c.take_turn.new.meter after)
+
+pub returns-in_err-rearrange-clause-idle : goal.returns-in_err-rearrange-clause-idle
+returns-in_err-rearrange-clause-idle g c = c.rearrange.ensures.arranged.idle c.in_ok-at.ensures.idle
+
+pub rearrange-requires : goal.rearrange-requires
+rearrange-requires g c = omega (arith, c.in_ok-at.ensures.at, ap length c.deref.ensures.value, c.turns.offers.ok.0)
+
+pub returns-in_err-at-clause-stopped : goal.returns-in_err-at-clause-stopped
+returns-in_err-at-clause-stopped g c =
+    let V = g.M.Machine.view in let m = c.args.machine.now in let w = V.stands m c.args.start in let n = V.number c.args.start in let i = c.turns in
+    let go = i.invariant.going in
+    let r = c.in_err-at.ensures.refused w in
+    on_err c.from_residual-in_err-at.result
+    (refused_stops V g.met.M.Machine.lawful m i.machine c.args.table.now w c.args.budget n i.engine c.args.meter.now i.meter c.in_ok-open.ensures.few
+    c.requires.budget c.requires.known go (g.met.M.Machine.lawful.among m c.args.start c.requires.out) c.take_turn.new.machine r.at c.take_turn.new.engine
+    c.take_turn.new.meter c.take_turn.ensures.held c.take_turn.ensures.keeps
+    (subst (λ (A : Meanings g.M.Machine.Meaning g.row.M-Change.Denot). Refused V
+    (trial_of A c.args.table.now w c.args.budget) i.machine c.take_turn.new.machine r.at i.engine c.take_turn.new.engine i.meter c.take_turn.new.meter)
+    i.invariant.going.keeps.meanings r.refused))

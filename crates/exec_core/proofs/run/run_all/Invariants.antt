@@ -4,13 +4,16 @@ use Rattle.traces.specs.Cost.{cost_so_far}
 use Rattle.exec_core.specs.Analysed.{IsGoing}
 use Rattle.exec_core.specs.Engines.{IsIdle}
 use Rattle.code_form.specs.Trial.{trial_of}
+use Rattle.exec_core.specs.Picked.{AreOffered}
 use Rattle.exec_core.specs.Turned.{executions_of}
 use Rattle.exec_core.proofs.run.run_all.Given as goal
 
 abbrev pub invariant-turns : goal.invariant-turns
 invariant-turns g l = let V = g.M.Machine.view in record {
-  going : IsGoing V (trial_of (V.meanings l.fn.machine) l.table (V.stands l.fn.machine l.fn.start) l.budget) l.fn.machine l.machine (V.number l.fn.start) l.engine l.fn.meter l.meter;
+  going : IsGoing V (trial_of (V.meanings l.fn.machine) l.table (V.stands l.fn.machine l.fn.start) l.budget) l.fn.machine l.machine
+      (V.number l.fn.start) l.engine l.fn.meter l.meter;
   idle : IsIdle l.engine;
+  offered : AreOffered l.engine.lives.items l.offers.items;
 }
 
 abbrev pub decreases-turns : goal.decreases-turns

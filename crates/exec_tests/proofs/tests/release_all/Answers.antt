@@ -7,7 +7,7 @@ use Rattle.exec_core.specs.Analysed.{class_numbers}
 use Rattle.exec_core.specs.Held.{AreLeftOf}
 use Rattle.exec_core.specs.declared.result.Class.{Class}
 use Rattle.exec_core.proofs.Holding.{left_all, left_less}
-use Rattle.exec_core.proofs.PieceLemmas.{contains_map}
+use Rattle.exec_core.proofs.ChildLemmas.{contains_map}
 use Rattle.exec_tests.proofs.tests.release_all.Goals as goal
 
 pub loop-class-init : goal.loop-class-init
@@ -17,20 +17,23 @@ loop-class-init g c =
     let e = map-map V.number f c.args.classes in
     subst (λ xs. AreLeftOf V m (class_numbers V c.args.classes) m (map f xs)) (sym c.into_vec-rest.ensures)
     (subst (λ ns. AreLeftOf V m ns m (map f c.args.classes)) e
-    (left_all V g.met.M.Machine.lawful m (map f c.args.classes) (All-map (V.is_out m) f c.args.classes c.requires.out) (subst (IsDistinct nat_eq) (sym e) c.requires.distinct)))
+    (left_all V g.met.M.Machine.lawful m (map f c.args.classes) (All-map (V.is_out m) f c.args.classes c.requires.out)
+    (subst (IsDistinct nat_eq) (sym e) c.requires.distinct)))
 
 pub loop-class-preserved : goal.loop-class-preserved
 loop-class-preserved g c =
     let V = g.M.Machine.view in
     let f : Class g.row.M-State.Denot → g.row.M-State.Denot = λ x. x.state in
-    left_less V g.met.M.Machine.lawful c.args.machine.now c.loop-class.machine c.release.new.self (class_numbers V c.args.classes) (map f c.loop-class.rest.items) (map f c.pop.new.self.items) c.in-Some.class.state c.loop-class.invariant
+    left_less V g.met.M.Machine.lawful c.args.machine.now c.loop-class.machine c.release.new.self (class_numbers V c.args.classes)
+    (map f c.loop-class.rest.items) (map f c.pop.new.self.items) c.in-Some.class.state c.loop-class.invariant
     (ap (map f) c.in-Some.ensures.items ∙ map-append f c.pop.new.self.items (c.in-Some.class ∷ [])) c.release.ensures.out_numbers c.release.ensures.keeps
 
 pub loop-class-preserved-in-Some : goal.loop-class-preserved-in-Some
 loop-class-preserved-in-Some g c =
     let V = g.M.Machine.view in
     let f : Class g.row.M-State.Denot → g.row.M-State.Denot = λ x. x.state in
-    left_less V g.met.M.Machine.lawful c.args.machine.now c.loop-class.machine c.release.new.self (class_numbers V c.args.classes) (map f c.loop-class.rest.items) (map f c.pop.new.self.items) c.in-Some.class.state c.loop-class.invariant
+    left_less V g.met.M.Machine.lawful c.args.machine.now c.loop-class.machine c.release.new.self (class_numbers V c.args.classes)
+    (map f c.loop-class.rest.items) (map f c.pop.new.self.items) c.in-Some.class.state c.loop-class.invariant
     (ap (map f) c.in-Some.ensures.items ∙ map-append f c.pop.new.self.items (c.in-Some.class ∷ [])) c.release.ensures.out_numbers c.release.ensures.keeps
 
 pub release-requires : goal.release-requires

@@ -16,5 +16,6 @@ release_all-requires-clause-distinct g c =
     let started : IsPermutation (n ∷ []) one = subst (λ xs. IsPermutation (n ∷ xs) one) c.in_ok-toy.ensures.none_out c.in_ok-start.ensures.out_numbers in
     IsDistinct-IsPermutation nat_eq flips out cs
     (cancel_front (n ∷ []) out cs (IsPermutation-trans (n ∷ out) (cs ++ one) (n ∷ cs) c.in_ok-analysis.ensures.out_numbers
-    (IsPermutation-trans (cs ++ one) (cs ++ n ∷ []) (n ∷ cs) (IsPermutation-append_right cs one (n ∷ []) (IsPermutation-sym (n ∷ []) one started)) (IsPermutation-to_front cs n))))
+    (IsPermutation-trans (cs ++ one) (cs ++ n ∷ []) (n ∷ cs) (IsPermutation-append_right cs one (n ∷ []) (IsPermutation-sym (n ∷ []) one started))
+    (IsPermutation-to_front cs n))))
     c.analyse.new.machine.distinct
