@@ -1,5 +1,6 @@
 -- The formulas of the operations, as one lane of a vector computes them.
-use Rattle.std.proofs.Common.{◌≡◌, ℕ, suc, ◌+◌, ◌-◌, ◌*◌, ◌/◌, ◌%◌, ◌^◌, ◌<◌, ◌≤◌, min, bit_and, cond, inl, inr, arith, add-zero, ap, sym, ◌∙◌, refl, pos, negsuc}
+use Rattle.std.proofs.Common.{◌≡◌, ℕ, suc, ◌+◌, ◌-◌, ◌*◌, ◌/◌, ◌%◌, ◌^◌, ◌<◌, ◌≤◌, min, bit_and, cond, inl, inr, arith, add-zero, ap, sym, ◌∙◌, refl, pos}
+use Rattle.std.proofs.Common.{negsuc}
 use Rattle.std.specs.Prelude.{◌-ℤ◌, nat_lt}
 use Rattle.std.specs.Int.RustNames.{int_lt}
 use Rattle.std.proofs.Math.Nat.{div-eq_of_lt, pow-le-pow_right, add-mul, one-mul, add-mul-div_right, div-le_self, mod-eq_of_lt, zero-mod}

@@ -1,5 +1,6 @@
 -- Masks of equal words, bit by bit.
-use Rattle.std.proofs.Common.{◌≡◌, ℕ, suc, ◌+◌, ◌-◌, ◌*◌, ◌/◌, ◌%◌, ◌^◌, ◌<◌, ◌≤◌, List, Bool, true, false, cond, inl, inr, length, map, take, drop, get_or, bit_and, arith, ap, sym, ◌∙◌, refl, drop-cons, length-drop}
+use Rattle.std.proofs.Common.{◌≡◌, ℕ, suc, ◌+◌, ◌-◌, ◌*◌, ◌/◌, ◌%◌, ◌^◌, ◌<◌, ◌≤◌, List, Bool, true, false, cond, inl, inr, length, map, take, drop, get_or}
+use Rattle.std.proofs.Common.{bit_and, arith, ap, sym, ◌∙◌, refl, drop-cons, length-drop}
 use Rattle.std.specs.Prelude.{nat_eq, IsBitSet, ◌↔◌}
 use Rattle.std.specs.Simd.Lanes.{chunk}
 use Rattle.std.proofs.lemmas.List.{length-map, take_all, take-map, drop-map, get_or-map, get_or_past}

@@ -13,6 +13,8 @@ mod page;
 mod planes;
 mod shifts;
 mod single;
+#[cfg(test)]
+mod tests;
 mod words;
 
 pub use binary::binary_lanes;

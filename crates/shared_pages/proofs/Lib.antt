@@ -1,11 +1,17 @@
 pub mod Owners
 pub mod Named
+pub mod Tabulate
+pub mod Joined
 pub mod Views
 pub mod RowSteps
 pub mod ForkSteps
 pub mod Kept
 pub mod ReleaseSteps
+pub mod Already
 pub mod PageSteps
 pub mod NewSteps
 pub mod ReserveSteps
 pub mod Runs
+pub mod Openings
+pub mod Laws
+pub mod HeldSteps

@@ -1,13 +1,15 @@
 -- Entries and the counts of what they name.
-use Rattle.std.proofs.Common.{◌≡◌, ◌≢◌, ℕ, zero, suc, ◌+◌, ◌-◌, ◌*◌, ◌<◌, ◌≤◌, List, [], ◌∷◌, ◌++◌, length, get_or, set, arith, ap, sym, ◌∙◌, refl, get_or-set_same, get_or-set_other, length-append, subst, inl, inr}
+use Rattle.std.proofs.Common.{◌≡◌, ℕ, zero, suc, ◌+◌, ◌-◌, ◌<◌, ◌≤◌, List, [], ◌∷◌, ◌++◌, length, get_or, set, arith, ap, sym, ◌∙◌, refl}
+use Rattle.std.proofs.Common.{get_or-set_same, get_or-set_other, length-append, subst, inl, inr}
 use Rattle.std.proofs.Math.ListN.{length-set}
 use Rattle.std.proofs.lemmas.Bool.{cases_eq, cases_lt}
 use Rattle.std.proofs.lemmas.Bool.Decides.{nat_tests}
-use Rattle.std.proofs.lemmas.List.{get_or_past, get_or_default, get_or_append_left}
-use Rattle.shared_pages.specs.Counts.{is_one, occurs, one_less, one_more, one_if, AreCounted, IsShared, Names}
-use Rattle.std.specs.Prelude.{nat_lt, ◌&&◌, ◌==◌}
+use Rattle.std.proofs.lemmas.List.{get_or_past, get_or_default}
+use Rattle.shared_pages.specs.Counts.{is_one, occurs, different, one_less, one_more, one_if, AreCounted, IsShared, Names}
+use Rattle.std.specs.Prelude.{nat_lt, nat_eq, ◌&&◌, ◌==◌}
 use Rattle.shared_pages.specs.Store.{own_at}
-use Rattle.shared_pages.proofs.Owners.{is_one-same, is_one-other, is_one-le, occurs-set, occurs_at, occurs_push, occurs-le-length, occurs-lt-length}
+use Rattle.shared_pages.proofs.Owners.{is_one-same, is_one-other, occurs-set, occurs_at, occurs_push, occurs_cons, occurs-le-length}
+use Rattle.shared_pages.proofs.Owners.{occurs-lt-length}
 
 pub below_nonzero : (xs : List ℕ) (p : ℕ) → 0 < get_or xs p 0 → p < length xs
 below_nonzero xs p h = elim (cases_lt p (length xs)) [
@@ -41,7 +43,8 @@ counts_less counts (suc p) q owned other =
     elim (cases_eq q (suc p)) [
       | inl e ↦ subst (λ (k : ℕ). get_or (set counts (suc p) (get_or counts (suc p) 0 - 1)) k 0 + is_one k (suc p) ≡ get_or counts k 0) (sym e)
           (let at = get_or-set_same counts (suc p) (get_or counts (suc p) 0 - 1) 0 h in let one = is_one-same (suc p) in omega (arith, at, one, some))
-      | inr ne ↦ let at = get_or-set_other counts (suc p) q (get_or counts (suc p) 0 - 1) 0 ne in let none = is_one-other q (suc p) ne in omega (arith, at, none)
+      | inr ne ↦ let at = get_or-set_other counts (suc p) q (get_or counts (suc p) 0 - 1) 0 ne in let none = is_one-other q (suc p) ne in
+          omega (arith, at, none)
     ]
 
 pub first_less : (counts : List ℕ) (p : ℕ) → 0 < get_or counts 0 0 → 0 < get_or (one_less counts p) 0 0
@@ -152,16 +155,85 @@ pub length-one_less : (counts : List ℕ) (p : ℕ) → length (one_less counts 
 length-one_less counts zero = refl
 length-one_less counts (suc p) = length-set counts (suc p) (get_or counts (suc p) 0 - 1)
 
+-- How many numbers have an owner.
+
+-- counts that are all 0
+all_free : (cs : List ℕ) → ((p : ℕ) → get_or cs p 0 ≡ 0) → occurs 0 cs ≡ length cs
+all_free [] h = refl
+all_free (c ∷ cs) h =
+    let rest = all_free cs (λ p. h (suc p)) in
+    let more = occurs_cons 0 c cs in
+    let one : is_one 0 c ≡ 1 = ap (is_one 0) (h 0) in
+    omega (arith, rest, more, one)
+
+-- where there is no entry, number 0 alone has an owner
+none_named : (cs : List ℕ) → AreCounted [] cs → 1 + occurs 0 cs ≡ length cs
+none_named [] a = let f = a.first in absurd (omega (arith, f))
+none_named (c ∷ cs) a =
+    let first : 0 < c = a.first in
+    let rest = all_free cs (λ p. a.counted (suc p) (omega arith)) in
+    let more = occurs_cons 0 c cs in
+    let none = is_one-other 0 c (λ e. absurd (omega (arith, e, first))) in
+    omega (arith, rest, more, none)
+
+-- the counts without the first entry
+owned_first : (x : ℕ) (es cs : List ℕ) → AreCounted (x ∷ es) cs → 0 < x → get_or cs x 0 ≡ 1 + occurs x es
+owned_first x es cs a some =
+    let c = a.counted x some in
+    let more = occurs_cons x x es in
+    let one = is_one-same x in
+    omega (arith, c, more, one)
+
+counted_rest : (x : ℕ) (es cs : List ℕ) → AreCounted (x ∷ es) cs → AreCounted es (one_less cs x)
+counted_rest x es cs a = record {
+  first = first_less cs x a.first;
+  counted = λ q other.
+      let l = counts_less cs x q (λ some. let o = owned_first x es cs a some in omega (arith, o)) other in
+      let c = a.counted q other in
+      let more = occurs_cons q x es in
+      omega (arith, l, c, more);
+}
+
+freed_first : (x : ℕ) (es cs : List ℕ) → AreCounted (x ∷ es) cs
+    → occurs 0 (one_less cs x) ≡ occurs 0 cs + one_if (nat_lt 0 x && nat_eq (occurs x es) 0)
+freed_first x es cs a = elim (cases_eq x 0) [
+  | inl e ↦
+      let none = not_last x (occurs x es) e in
+      let same = ap (λ (q : ℕ). occurs 0 (one_less cs q)) e in
+      omega (arith, none, same)
+  | inr ne ↦
+      let some : 0 < x = omega (arith, ne) in
+      let o = owned_first x es cs a some in
+      let owned : 0 < get_or cs x 0 = omega (arith, o) in
+      let f = free_less cs x (below_nonzero cs x owned) owned in
+      let is = ap (occurs 0) (one_less-is cs x some) in
+      let last = is_last x (occurs x es) some in
+      let count : is_one 1 (get_or cs x 0) ≡ is_one 1 (1 + occurs x es) = ap (is_one 1) o in
+      omega (arith, f, is, last, count)
+]
+  where
+    not_last : (p n : ℕ) → p ≡ 0 → one_if (nat_lt 0 p && nat_eq n 0) ≡ 0
+    not_last p n h = grind (arith, nat_tests)
+
+    is_last : (p n : ℕ) → 0 < p → one_if (nat_lt 0 p && nat_eq n 0) ≡ is_one 1 (1 + n)
+    is_last p n h = grind (arith, nat_tests)
+
+-- the numbers with an owner are number 0 and the different numbers that entries name
+pub used_counted : (es cs : List ℕ) → AreCounted es cs → different es + 1 + occurs 0 cs ≡ length cs
+used_counted [] cs a = let n = none_named cs a in omega (arith, n)
+used_counted (x ∷ es) cs a =
+    let rest = used_counted es (one_less cs x) (counted_rest x es cs a) in
+    let long = length-one_less cs x in
+    let free = freed_first x es cs a in
+    omega (arith, rest, long, free)
+
 -- What is seen of entries and counts.
 
-abbrev pub as_names : List ℕ → ℕ → ℕ → Names
-as_names es l u = record { entries = es; limit = l; used = u }
+abbrev pub as_names : List ℕ → ℕ → Names
+as_names es l = record { entries = es; limit = l }
 
 abbrev pub names_of : List ℕ → List ℕ → Names
-names_of es counts = as_names es (length counts) (length counts - occurs 0 counts)
-
-same_names : (es : List ℕ) (l m u v : ℕ) → l ≡ m → u ≡ v → as_names es l u ≡ as_names es m v
-same_names es l m u v e f = λ i. as_names es (e i) (f i)
+names_of es counts = as_names es (length counts)
 
 -- the number that an entry shares keeps an owner
 still_owned : (es counts next : List ℕ) (i p : ℕ) → AreCounted es counts → IsShared es i → ((q : ℕ) → get_or counts q 0 ≤ get_or next q 0)
@@ -189,44 +261,56 @@ grown_more [] (suc q) = let none = is_one-other (suc q) 0 (λ e. absurd (omega (
 grown_more (c ∷ counts) zero = let none = is_one-other 0 (suc (length counts)) (λ e. absurd (omega (arith, e))) in omega (arith, none)
 grown_more (c ∷ counts) (suc q) = let more = grown_more counts q in let same = is_one-suc q (length counts) in omega (arith, more, same)
 
-pub seen_renewed : (es counts : List ℕ) (i p : ℕ) → AreCounted es counts → IsShared es i → p < length counts → get_or counts p 1 ≡ 0
-    → names_of (set es i p) (one_less (set counts p 1) (get_or es i 0)) ≡ as_names (set es i p) (length counts) ((length counts - occurs 0 counts) + 1)
-seen_renewed es counts i p a shared below e =
+pub seen_renewed : (es counts : List ℕ) (i p : ℕ)
+    → names_of (set es i p) (one_less (set counts p 1) (get_or es i 0)) ≡ as_names (set es i p) (length counts)
+seen_renewed es counts i p =
+    ap (as_names (set es i p)) (length-one_less (set counts p 1) (get_or es i 0) ∙ length-set counts p 1)
+
+pub used_renewed : (es counts : List ℕ) (i p : ℕ) → AreCounted es counts → i < length es → IsShared es i → 0 < p → p < length counts
+    → get_or counts p 1 ≡ 0 → different (set es i p) ≡ different es + 1
+used_renewed es counts i p a h shared other below e =
     let next = set counts p 1 in
     let z : get_or counts p 0 ≡ 0 = get_or_default counts p 0 1 below ∙ e in
     let more = free_more counts p 1 below z (omega arith) in
     let kept = free_kept next (get_or es i 0) (still_owned es counts next i p a shared (λ q. let m = set_more counts p below e q in omega (arith, m))) in
     let long = length-set counts p 1 in
     let same = length-one_less next (get_or es i 0) in
-    let most = occurs-le-length 0 counts in
-    same_names (set es i p) (length (one_less next (get_or es i 0))) (length counts) (length (one_less next (get_or es i 0)) - occurs 0 (one_less next
-    (get_or es i 0))) ((length counts - occurs 0 counts) + 1)
-    (omega (arith, long, same)) (omega (arith, more, kept, long, same, most))
+    let was = used_counted es counts a in
+    let now = used_counted (set es i p) (one_less next (get_or es i 0)) (renewed es counts next i p a h shared other (set_more counts p below e)) in
+    omega (arith, more, kept, long, same, was, now)
 
-pub seen_added : (es counts : List ℕ) (i : ℕ) → AreCounted es counts → IsShared es i
+pub seen_added : (es counts : List ℕ) (i : ℕ)
     → names_of (set es i (length counts)) (one_less (counts ++ 1 ∷ []) (get_or es i 0)) ≡ as_names (set es i (length counts)) (length counts + 1)
-    ((length counts - occurs 0 counts) + 1)
-seen_added es counts i a shared =
+seen_added es counts i =
+    ap (as_names (set es i (length counts))) (length-one_less (counts ++ 1 ∷ []) (get_or es i 0) ∙ length-append counts (1 ∷ []))
+
+pub used_added : (es counts : List ℕ) (i : ℕ) → AreCounted es counts → i < length es → IsShared es i
+    → different (set es i (length counts)) ≡ different es + 1
+used_added es counts i a h shared =
     let next = counts ++ 1 ∷ [] in
     let kept = free_kept next (get_or es i 0) (still_owned es counts next i 0 a shared (λ q. let m = grown_more counts q in omega (arith, m))) in
     let long = length-append counts (1 ∷ []) in
     let push = occurs_push 0 counts 1 in
     let none : is_one 0 1 ≡ 0 = refl in
     let same = length-one_less next (get_or es i 0) in
-    let most = occurs-le-length 0 counts in
-    same_names (set es i (length counts)) (length (one_less next (get_or es i 0))) (length counts + 1) (length (one_less next (get_or es i 0)) - occurs 0
-    (one_less next (get_or es i 0))) ((length counts - occurs 0 counts) + 1)
-    (omega (arith, long, same)) (omega (arith, kept, long, push, none, same, most))
+    let was = used_counted es counts a in
+    let now = used_counted (set es i (length counts)) (one_less next (get_or es i 0))
+    (renewed es counts next i (length counts) a h shared (below_nonzero counts 0 a.first) (grown_more counts)) in
+    omega (arith, kept, long, push, none, same, was, now)
 
-pub seen_shared : (es counts : List ℕ) (i j : ℕ) → AreCounted es counts → i < length es
+pub seen_shared : (es counts : List ℕ) (i j : ℕ)
     → names_of (set es j (get_or es i 0)) (one_more counts (get_or es i 0)) ≡ as_names (set es j (get_or es i 0)) (length counts)
-    (length counts - occurs 0 counts)
-seen_shared es counts i j a h =
+seen_shared es counts i j = ap (as_names (set es j (get_or es i 0))) (length-one_more counts (get_or es i 0))
+
+pub used_shared : (es counts : List ℕ) (i j : ℕ) → AreCounted es counts → i < length es → j < length es → get_or es j 0 ≡ 0
+    → different (set es j (get_or es i 0)) ≡ different es
+used_shared es counts i j a h k empty =
     let p = get_or es i 0 in
     let long = length-one_more counts p in
     let free = free_one_more counts p (λ some. let o = occurs_at es i h in let c = a.counted p some in omega (arith, o, c)) in
-    same_names (set es j p) (length (one_more counts p)) (length counts) (length (one_more counts p) - occurs 0 (one_more counts p))
-    (length counts - occurs 0 counts) long (omega (arith, long, free))
+    let was = used_counted es counts a in
+    let now = used_counted (set es j p) (one_more counts p) (shares es counts i j a h k empty) in
+    omega (arith, long, free, was, now)
 
 -- the limit is named by no entry
 pub none_names_limit : (es counts : List ℕ) → AreCounted es counts → occurs (length counts) es ≡ 0
@@ -236,9 +320,9 @@ none_names_limit es counts a =
     let c = a.counted (length counts) some in
     omega (arith, past, c)
 
-pub used_cleared : (es counts : List ℕ) (i : ℕ) → AreCounted es counts → i < length es
+free_cleared : (es counts : List ℕ) (i : ℕ) → AreCounted es counts → i < length es
     → (length (one_less counts (get_or es i 0)) - occurs 0 (one_less counts (get_or es i 0))) + one_if (own_at es i) ≡ length counts - occurs 0 counts
-used_cleared es counts i a h = elim (cases_eq (get_or es i 0) 0) [
+free_cleared es counts i a h = elim (cases_eq (get_or es i 0) 0) [
   | inl e ↦
       let none = not_own (get_or es i 0) (occurs (get_or es i 0) es) e in
       let same : one_less counts (get_or es i 0) ≡ counts = ap (one_less counts) e in
@@ -275,3 +359,11 @@ cleared es counts i a h =
     let l = counts_less counts (get_or es i 0) q (λ full. let o = occurs_at es i h in let c = a.counted (get_or es i 0) full in omega (arith, o, c)) other in
     let none : is_one q 0 ≡ 0 = is_one-other q 0 (λ e. absurd (omega (arith, e, other))) in
     omega (arith, l, none))
+
+pub used_cleared : (es counts : List ℕ) (i : ℕ) → AreCounted es counts → i < length es
+    → different (set es i 0) + one_if (own_at es i) ≡ different es
+used_cleared es counts i a h =
+    let free = free_cleared es counts i a h in
+    let was = used_counted es counts a in
+    let now = used_counted (set es i 0) (one_less counts (get_or es i 0)) (cleared es counts i a h) in
+    omega (arith, free, was, now)

@@ -1,13 +1,11 @@
 -- How often a number stands in a list, and pools.
-use Rattle.std.proofs.Common.{◌≡◌, ◌≢◌, ℕ, zero, suc, ◌+◌, ◌-◌, ◌*◌, ◌<◌, ◌≤◌, List, [], ◌∷◌, ◌++◌, length, get_or, set, arith, ap, sym, ◌∙◌, refl, get_or-set_same, get_or-set_other, length-append, subst, inl, inr}
+use Rattle.std.proofs.Common.{◌≡◌, ◌≢◌, ℕ, zero, suc, ◌+◌, ◌<◌, ◌≤◌, List, [], ◌∷◌, ◌++◌, length, get_or, set, arith, ap, sym, ◌∙◌, refl}
+use Rattle.std.proofs.Common.{get_or-set_same, get_or-set_other, length-append, subst, inl, inr}
 use Rattle.std.proofs.Math.ListN.{length-set}
-use Rattle.std.proofs.lemmas.Grind.{common_steps}
 use Rattle.std.proofs.lemmas.Bool.Decides.{nat_tests}
-use Rattle.std.proofs.lemmas.List.Sums.{sum_by-cons, sum_by-set, sum_by_push, sum_by-append}
+use Rattle.std.proofs.lemmas.List.Sums.{sum_by-cons, sum_by-set, sum_by_push}
 use Rattle.std.proofs.lemmas.List.{get_or_default, get_or_past, get_or_append_left}
 use Rattle.std.proofs.lemmas.Bool.{cases_eq, cases_lt}
-use Rattle.std.specs.Prelude.{nat_eq}
-use Rattle.std.specs.List.{sum_by}
 use Rattle.shared_pages.specs.Counts.{is_one, occurs, is_free, IsPool}
 
 pub is_one-same : (x : ℕ) → is_one x x ≡ 1
@@ -68,6 +66,33 @@ occurs_once x xs i j once h k at also = elim (cases_eq i j) [
       let more2 : 0 < occurs x (set xs i (suc x)) = subst (λ (y : ℕ). 0 < occurs y (set xs i (suc x))) there more in
       absurd (omega (arith, s, one, none, more2, once))
 ]
+
+-- a number that stands in no place occurs nowhere
+pub occurs_none : (x : ℕ) (xs : List ℕ) → ((j : ℕ) → j < length xs → get_or xs j 0 ≢ x) → occurs x xs ≡ 0
+occurs_none x [] h = refl
+occurs_none x (y ∷ xs) h =
+    let none = is_one-other x y (λ e. h 0 (omega arith) (sym e)) in
+    let rest = occurs_none x xs (λ j low. h (suc j) (omega (arith, low))) in
+    let more = occurs_cons x y xs in
+    omega (arith, none, rest, more)
+
+-- a number that stands in one place alone occurs once
+pub once_from_places : (xs : List ℕ) (i : ℕ) → i < length xs → ((j : ℕ) → j < length xs → get_or xs j 0 ≡ get_or xs i 0 → j ≡ i) → occurs (get_or xs i 0) xs ≡ 1
+once_from_places xs i h alone =
+    let x = get_or xs i 0 in
+    let s = occurs-set x xs i (suc x) h in
+    let same = is_one-same x in
+    let other = is_one-other x (suc x) (λ e. absurd (omega (arith, e))) in
+    let none = occurs_none x (set xs i (suc x)) (λ j low e. elim (cases_eq j i) [
+      | inl k ↦
+          let at : get_or (set xs i (suc x)) i 0 ≡ suc x = get_or-set_same xs i (suc x) 0 h in
+          let moved : get_or (set xs i (suc x)) j 0 ≡ get_or (set xs i (suc x)) i 0 = ap (λ (q : ℕ). get_or (set xs i (suc x)) q 0) k in
+          absurd (omega (arith, at, moved, e))
+      | inr ne ↦
+          let long = length-set xs i (suc x) in
+          ne (alone j (omega (arith, low, long)) (sym (get_or-set_other xs i j (suc x) 0 ne) ∙ e))
+    ]) in
+    omega (arith, s, same, other, none)
 
 -- The free list of a pool, at each change.
 

@@ -1,61 +1,34 @@
 -- A memory that is let go.
-use Rattle.am_base.specs.declared.limits.TheConstants.{MEMORY_BYTES, PAGE_BYTES}
 use Rattle.shared_pages.specs.Size.{memory_pages}
-use Rattle.std.proofs.Common.{◌≡◌, ◌≢◌, ℕ, zero, suc, ◌+◌, ◌-◌, ◌*◌, ◌/◌, ◌%◌, ◌<◌, ◌≤◌, ◌⊎◌, List, Bool, true, false, length, get_or, set, arith, ap, sym, ◌∙◌, refl, subst, inl, inr, get_or-set_same, get_or-set_other}
-use Rattle.std.specs.Prelude.{nat_lt, nat_eq, ◌&&◌}
-use Rattle.std.specs.List.{count_by, range_with_len}
+use Rattle.std.proofs.Common.{◌≡◌, ◌≢◌, ℕ, zero, suc, ◌+◌, ◌-◌, ◌*◌, ◌<◌, ◌≤◌, ◌⊎◌, List, length, get_or, set, arith, ap, sym, ◌∙◌}
+use Rattle.std.proofs.Common.{inl, inr, get_or-set_same, get_or-set_other}
+use Rattle.std.specs.Prelude.{nat_lt, ◌&&◌}
+use Rattle.std.specs.List.{count_by}
 use Rattle.std.proofs.Math.ListN.{length-set}
-use Rattle.std.proofs.lemmas.Bool.{cases_eq, cases_lt}
-use Rattle.shared_pages.specs.Counts.{Names, one_if, occurs}
-use Rattle.shared_pages.specs.Rows.{IsCleared, RowKept, own_below}
-use Rattle.shared_pages.specs.Store.{IsStore, IsKept, tabulate, own_at, blank_at, byte_at, is_live, seen, memory_seen, own_count, the_memory}
-use Rattle.shared_pages.proofs.Owners.{occurs_once}
-use Rattle.shared_pages.proofs.Views.{own_is, counted_none, counted_more}
-use Rattle.shared_pages.proofs.ForkSteps.{row_apart, own_true}
-use Rattle.shared_pages.proofs.Kept.{kept_memory, live_is_below}
+use Rattle.std.proofs.lemmas.Bool.{cases_eq}
+use Rattle.shared_pages.specs.Counts.{Names, one_if}
+use Rattle.shared_pages.specs.Rows.{IsCleared, own_below}
+use Rattle.shared_pages.specs.Store.{IsStore, IsIn, tabulate, own_at, is_own, is_live, seen, memory, own_count, used_pages}
+use Rattle.shared_pages.proofs.Tabulate.{counted_none, counted_more, same_tabulate}
+use Rattle.shared_pages.proofs.Views.{own_seen, used_seen}
+use Rattle.shared_pages.proofs.ForkSteps.{row_apart, copy_seen}
+use Rattle.shared_pages.proofs.Kept.{same_memory}
 
 -- an entry outside the row
 unmoved : (old new : Names) (m j : ℕ) → IsCleared old new m memory_pages → (j < m * memory_pages) ⊎ (m * memory_pages + memory_pages ≤ j)
     → get_or new.entries j 0 ≡ get_or old.entries j 0
 unmoved old new m j cleared far = elim far [ inl k ↦ cleared.below j k | inr k ↦ cleared.above j k ]
 
--- a page that one entry outside the row names is still named by it alone
-own_left : (old new : Names) (m k i : ℕ) → IsCleared old new m memory_pages → k ≢ m → m * memory_pages + memory_pages ≤ length old.entries
-    → k * memory_pages + memory_pages ≤ length old.entries → i < memory_pages
-    → own_at old.entries (k * memory_pages + i) ≡ true → own_at new.entries (k * memory_pages + i) ≡ true
-own_left old new m k i cleared ne row there h own =
-    let at = k * memory_pages + i in
-    let is = own_is old.entries at own in
-    let some = is.0 in
-    let same = unmoved old new m at cleared (row_apart k m i ne h) in
-    let counted : occurs (get_or old.entries at 0) new.entries ≡ occurs (get_or old.entries at 0) old.entries =
-    cleared.others (get_or old.entries at 0) some (λ j low e.
-    let one = occurs_once (get_or old.entries at 0) old.entries (m * memory_pages + j) at is.1 (omega (arith, row, low)) (omega
-    (arith, there, h)) e refl in
-    ne (omega (arith, one, h, low))) in
-    own_true new.entries at (omega (arith, same, some)) (ap (λ (p : ℕ). occurs p new.entries) same ∙ counted ∙ is.1)
-
-pub left_row : (old new : Names) (bs : List ℕ) (m k : ℕ) → IsCleared old new m memory_pages → k ≢ m
-    → m * memory_pages + memory_pages ≤ length old.entries → k * memory_pages + memory_pages ≤ length old.entries
-    → RowKept old.entries new.entries bs bs k
-left_row old new bs m k cleared ne row there = record {
-  bytes = λ b low. ap (λ (p : ℕ). get_or bs (p * PAGE_BYTES + b % PAGE_BYTES) 0) (unmoved old new m (k * memory_pages + b / PAGE_BYTES) cleared
-      (row_apart k m (b / PAGE_BYTES) ne (omega (arith, low))));
-  blank = λ i low. ap (λ (p : ℕ). nat_eq p 0) (unmoved old new m (k * memory_pages + i) cleared (row_apart k m i ne low));
-  own = λ i low own. own_left old new m k i cleared ne row there low own;
-}
-
 -- the numbers of the memories that are left
-less_live : (slots : List ℕ) (m k n : ℕ) → k ≢ m → is_live (set slots m n) k ≡ is_live slots k
-less_live slots m k n ne = ap (λ (q : ℕ). nat_lt 0 k && nat_lt 0 q) (get_or-set_other slots m k n 0 ne)
+left_live : (slots : List ℕ) (m k n : ℕ) → k ≢ m → is_live (set slots m n) k ≡ is_live slots k
+left_live slots m k n ne = ap (λ (q : ℕ). nat_lt 0 k && nat_lt 0 q) (get_or-set_other slots m k n 0 ne)
 
-pub released_kept : (slots : List ℕ) (old new : Names) (bs : List ℕ) (p m k : ℕ) → IsStore slots old bs p → IsCleared old new m memory_pages
-    → m < length slots → k ≢ m
-    → IsKept (seen slots old bs p) (seen (set slots m (get_or slots m 0 - 1)) new bs p) k
-released_kept slots old new bs p m k store cleared below ne =
-    let tables = store.tables in
-    kept_memory slots (set slots m (get_or slots m 0 - 1)) old new bs bs p p k (less_live slots m k (get_or slots m 0 - 1) ne)
-    (λ live. left_row old new bs m k cleared ne (omega (arith, tables, below)) (let low = live_is_below slots k live in omega (arith, tables, low)))
+-- no other memory changes
+pub released_same : (slots : List ℕ) (old new : Names) (bs : List ℕ) (p m k : ℕ) → IsCleared old new m memory_pages → k ≢ m
+    → memory (seen (set slots m (get_or slots m 0 - 1)) new bs p) k ≡ memory (seen slots old bs p) k
+released_same slots old new bs p m k cleared ne =
+    same_memory slots (set slots m (get_or slots m 0 - 1)) old new bs bs p p k (left_live slots m k (get_or slots m 0 - 1) ne)
+    (λ live. copy_seen old.entries new.entries bs k k (λ i h. unmoved old new m (k * memory_pages + i) cleared (row_apart k m i ne h)))
 
 pub released_store : (slots : List ℕ) (old new : Names) (bs : List ℕ) (p m : ℕ) → IsStore slots old bs p → IsCleared old new m memory_pages
     → m < length slots → 0 < m → IsStore (set slots m (get_or slots m 0 - 1)) new bs p
@@ -72,11 +45,12 @@ released_store slots old new bs p m store cleared below some =
       tables = omega (arith, tables, long, same);
       few = omega (arith, few, long);
       pages = omega (arith, pages, limit);
+      room = store.room;
       zero = store.zero;
       dead = λ k i none low. elim (cases_eq k m) [
         | inl e ↦ ap (λ (r : ℕ). get_or new.entries (r * memory_pages + i) 0) e ∙ cleared.cleared i low
         | inr ne ↦ unmoved old new m (k * memory_pages + i) cleared (row_apart k m i ne low)
-            ∙ store.dead k i (sym (get_or-set_other slots m k (get_or slots m 0 - 1) 0 ne) ∙ none) low
+            ∙ store.dead k i (sym (left_live slots m k (get_or slots m 0 - 1) ne) ∙ none) low
       ];
       once = λ k other. elim (cases_eq k m) [
         | inl e ↦
@@ -104,3 +78,21 @@ counted_own es m (suc n) =
     ap (λ (k : ℕ). count_by (λ b. b) (tabulate k (λ i. own_at es (m * memory_pages + i)))) next
     ∙ counted_more (λ i. own_at es (m * memory_pages + i)) n
     ∙ ap (λ (k : ℕ). k + one_if (own_at es (m * memory_pages + n))) (counted_own es m n)
+
+pub own_counted : (slots : List ℕ) (names : Names) (bs : List ℕ) (p m : ℕ) → IsStore slots names bs p → IsIn (seen slots names bs p) m
+    → own_count (seen slots names bs p) m ≡ own_below names.entries m memory_pages
+own_counted slots names bs p m store known =
+    ap (count_by (λ b. b)) (same_tabulate memory_pages (is_own (seen slots names bs p) m) (λ i. own_at names.entries (m * memory_pages + i))
+    (λ i low. own_seen slots names bs p m i store known low))
+    ∙ counted_own names.entries m memory_pages
+
+-- how many pages are used
+pub released_used : (slots : List ℕ) (old new : Names) (bs : List ℕ) (p m : ℕ) → IsStore slots old bs p → IsCleared old new m memory_pages
+    → m < length slots → 0 < m → IsIn (seen slots old bs p) m
+    → used_pages (seen (set slots m (get_or slots m 0 - 1)) new bs p) + own_count (seen slots old bs p) m ≡ used_pages (seen slots old bs p)
+released_used slots old new bs p m store cleared below some known =
+    let was = used_seen slots old bs p store in
+    let now = used_seen (set slots m (get_or slots m 0 - 1)) new bs p (released_store slots old new bs p m store cleared below some) in
+    let count = own_counted slots old bs p m store known in
+    let used = cleared.used in
+    omega (arith, was, now, count, used)

@@ -1,12 +1,12 @@
 -- Rows that are added, copied and cleared.
 use Rattle.shared_pages.specs.Size.{memory_pages}
-use Rattle.std.proofs.Common.{◌≡◌, ◌≢◌, ℕ, zero, suc, ◌+◌, ◌-◌, ◌*◌, ◌^◌, ◌<◌, ◌≤◌, List, [], ◌∷◌, ◌++◌, length, get_or, replicate, arith, ap, sym, ◌∙◌, refl, length-append, subst, inl, inr}
-use Rattle.std.proofs.lemmas.Bool.{cases_lt, cases_eq}
+use Rattle.std.proofs.Common.{◌≡◌, ℕ, zero, suc, ◌+◌, ◌^◌, ◌<◌, List, [], ◌∷◌, ◌++◌, length, get_or, replicate, arith, ap, ◌∙◌, refl}
+use Rattle.std.proofs.Common.{length-append}
 use Rattle.std.proofs.lemmas.List.Sums.{sum_by-append}
-use Rattle.std.proofs.lemmas.List.{get_or_past}
 use Rattle.std.proofs.lemmas.Simd.{length-replicate}
 use Rattle.shared_pages.specs.Counts.{Names, is_one, occurs}
 use Rattle.shared_pages.specs.Rows.{IsExtended}
+use Rattle.shared_pages.proofs.Joined.{different_same}
 use Rattle.shared_pages.proofs.Owners.{is_one-other, occurs_cons}
 
 occurs_zeros : (p n : ℕ) → 0 < p → occurs p (replicate n 0) ≡ 0
@@ -34,12 +34,13 @@ extended old new h e =
     let long = ap length is in
     let more = length-append old.entries (replicate memory_pages 0) in
     let zeros = length-replicate {A = ℕ} memory_pages 0 in
+    let often : (p : ℕ) → 0 < p → occurs p new.entries ≡ occurs p old.entries = (λ p some. ap (occurs p) is
+    ∙ (let a = sum_by-append (λ y. is_one p y) old.entries (replicate memory_pages 0) in let z = occurs_zeros p memory_pages some in omega (arith, a, z))) in
     record {
       few = omega (arith, long, more, zeros);
       long = omega (arith, long, more);
       limit = ap (λ (n : Names). n.limit) e;
-      used = ap (λ (n : Names). n.used) e;
+      used = different_same new.entries old.entries often;
       same = λ j. ap (λ (xs : List ℕ). get_or xs j 0) is ∙ at_longer old.entries memory_pages j;
-      occurs = λ p some. ap (occurs p) is ∙ (let a = sum_by-append (λ y. is_one p y) old.entries
-          (replicate memory_pages 0) in let z = occurs_zeros p memory_pages some in omega (arith, a, z));
+      occurs = often;
     }

@@ -6,7 +6,8 @@ use Rattle.std.proofs.lemmas.List.{get_or_default, same_lists}
 use Rattle.std.proofs.lemmas.Simd.{length-chunk, get_or-chunk}
 use Rattle.shared_pages.specs.Counts.{Names}
 use Rattle.shared_pages.specs.Store.{IsStore, IsIn, Memory, seen, the_memory, tabulate, byte_at}
-use Rattle.shared_pages.proofs.Views.{at_tabulate, length-tabulate, memory_is}
+use Rattle.shared_pages.proofs.Tabulate.{at_tabulate, length-tabulate}
+use Rattle.shared_pages.proofs.Views.{memory_is}
 
 pub run_seen : (slots : List ℕ) (names : Names) (bs : List ℕ) (peak m at count : ℕ) → IsStore slots names bs peak → IsIn (seen slots names bs peak) m
     → at < MEMORY_BYTES

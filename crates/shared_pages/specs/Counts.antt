@@ -1,5 +1,6 @@
 -- Numbers and their owners.
-use Rattle.std.specs.Prelude.{ℕ, zero, suc, ◌+◌, ◌-◌, ◌≢◌, ◌<◌, ◌≤◌, ◌≡◌, List, length, slice_index, slice_index_or, slice_set, nat_eq, Bool, if◌then◌else◌}
+use Rattle.std.specs.Prelude.{ℕ, zero, suc, ◌+◌, ◌-◌, ◌≢◌, ◌<◌, ◌≤◌, ◌≡◌, ◌&&◌, List, [], ◌∷◌, length, slice_index, slice_index_or, slice_set, nat_eq, nat_lt}
+use Rattle.std.specs.Prelude.{Bool, if◌then◌else◌}
 use Rattle.std.specs.List.{sum_by}
 
 -- 1 where a number is x, and else 0
@@ -13,6 +14,11 @@ one_if b = if b then 1 else 0
 abbrev pub occurs : ℕ → List ℕ → ℕ
 occurs x xs = sum_by (λ y. is_one x y) xs
 
+-- how many different numbers other than 0 stand in a list: each is counted where it stands last
+abbrev pub different : List ℕ → ℕ
+different [] = 0
+different (x ∷ xs) = one_if (nat_lt 0 x && nat_eq (occurs x xs) 0) + different xs
+
 -- 1 where a number of the list has no owner, and else 0
 abbrev pub is_free : List ℕ → ℕ → ℕ
 is_free counts p = is_one 0 (slice_index_or counts p 1)
@@ -24,11 +30,10 @@ pub record IsPool (counts : List ℕ) (free : List ℕ) (room : ℕ) : Type 0 wh
   pub total : length free ≡ occurs 0 counts
   pub capacity : length counts ≤ room
 
--- a list of entries, each of which names a number below a limit, and how many of these are the number 0 or named
+-- a list of entries, each of which names a number below a limit
 pub record Names : Type 0 where
   pub entries : List ℕ
   pub limit : ℕ
-  pub used : ℕ
 
 -- each number but 0 is counted as often as an entry names it
 pub record AreCounted (entries : List ℕ) (counts : List ℕ) : Type 0 where

@@ -1,15 +1,15 @@
 -- Rows of 1,024 entries.
-use Rattle.am_base.specs.declared.limits.TheConstants.{MEMORY_BYTES, PAGE_BYTES}
+use Rattle.am_base.specs.declared.limits.TheConstants.{PAGE_BYTES}
 use Rattle.shared_pages.specs.Size.{memory_pages}
-use Rattle.std.specs.Prelude.{ℕ, zero, suc, List, true, ◌⊎◌, slice_set, ◌≢◌, ◌+◌, ◌*◌, ◌<◌, ◌≤◌, ◌≡◌, ◌^◌, length, slice_index}
-use Rattle.shared_pages.specs.Counts.{Names, occurs, one_if}
-use Rattle.shared_pages.specs.Store.{own_at, blank_at, byte_at}
+use Rattle.std.specs.Prelude.{ℕ, zero, suc, List, ◌⊎◌, slice_set, ◌≢◌, ◌+◌, ◌*◌, ◌<◌, ◌≤◌, ◌≡◌, ◌^◌, length, slice_index}
+use Rattle.shared_pages.specs.Counts.{Names, occurs, different, one_if}
+use Rattle.shared_pages.specs.Store.{own_at}
 
 -- the first entries of row n are those of row m, and no other entry differs
 pub record IsCopied (old new : Names) (m n count : ℕ) : Type 0 where
   pub long : length new.entries ≡ length old.entries
   pub limit : new.limit ≡ old.limit
-  pub used : new.used ≡ old.used
+  pub used : different new.entries ≡ different old.entries
   pub copied : (j : ℕ) → j < count → slice_index new.entries (n * memory_pages + j) ≡ slice_index old.entries (m * memory_pages + j)
   pub below : (j : ℕ) → j < n * memory_pages → slice_index new.entries j ≡ slice_index old.entries j
   pub above : (j : ℕ) → n * memory_pages + count ≤ j → slice_index new.entries j ≡ slice_index old.entries j
@@ -23,7 +23,7 @@ own_below entries n (suc i) = own_below entries n i + one_if (own_at entries (n 
 pub record IsCleared (old new : Names) (n count : ℕ) : Type 0 where
   pub long : length new.entries ≡ length old.entries
   pub limit : new.limit ≡ old.limit
-  pub used : new.used + own_below old.entries n count ≡ old.used
+  pub used : different new.entries + own_below old.entries n count ≡ different old.entries
   pub cleared : (j : ℕ) → j < count → slice_index new.entries (n * memory_pages + j) ≡ 0
   pub below : (j : ℕ) → j < n * memory_pages → slice_index new.entries j ≡ slice_index old.entries j
   pub above : (j : ℕ) → n * memory_pages + count ≤ j → slice_index new.entries j ≡ slice_index old.entries j
@@ -41,15 +41,9 @@ pub record IsExtended (old new : Names) : Type 0 where
   pub few : length new.entries < 2 ^ 32
   pub long : length old.entries ≤ length new.entries
   pub limit : new.limit ≡ old.limit
-  pub used : new.used ≡ old.used
+  pub used : different new.entries ≡ different old.entries
   pub same : (j : ℕ) → slice_index new.entries j ≡ slice_index old.entries j
   pub occurs : (p : ℕ) → 0 < p → occurs p new.entries ≡ occurs p old.entries
-
--- a memory's row, in which pages were let go or taken: the bytes and the zero pages are the same, and no page of its own is lost
-pub record RowKept (old new : List ℕ) (before after : List ℕ) (m : ℕ) : Type 0 where
-  pub bytes : (b : ℕ) → b < MEMORY_BYTES → byte_at new after m b ≡ byte_at old before m b
-  pub blank : (i : ℕ) → i < memory_pages → blank_at new (m * memory_pages + i) ≡ blank_at old (m * memory_pages + i)
-  pub own : (i : ℕ) → i < memory_pages → own_at old (m * memory_pages + i) ≡ true → own_at new (m * memory_pages + i) ≡ true
 
 -- entry `at` names a number that none named, whose page has a copy of the bytes of the page that it named before
 pub record IsRenewed (old new : Names) (before after : List ℕ) (at p : ℕ) : Type 0 where

@@ -1,6 +1,6 @@
 //! Lists of entries whose names are counted.
-ghost use Rattle.std.specs.Prelude.{◌≡◌, ◌≢◌, ℕ, ◌+◌, ◌-◌, ◌^◌, ◌<◌, ◌≤◌, ◌++◌, [], length, replicate, slice_index, slice_set, IfOk, IfSome, IfNone, OnOk, OnErr};
-ghost use Rattle.shared_pages.specs.Counts.{occurs, IsShared, one_if};
+ghost use Rattle.std.specs.Prelude.{◌≡◌, ℕ, ◌+◌, ◌^◌, ◌<◌, ◌≤◌, ◌++◌, [], length, replicate, slice_index, slice_set, IfOk, IfSome, IfNone, OnOk, OnErr};
+ghost use Rattle.shared_pages.specs.Counts.{occurs, different, IsShared, one_if};
 ghost use Rattle.shared_pages.specs.Store.{own_at};
 
 use crate::pool::Pool;
@@ -16,15 +16,14 @@ pub(crate) struct Naming {
 }
 
 impl Model for Naming {
-    ghost use Rattle.std.specs.Prelude.{length, ◌-◌};
-    ghost use Rattle.shared_pages.specs.Counts.{Names, AreCounted, occurs};
+    ghost use Rattle.std.specs.Prelude.{length};
+    ghost use Rattle.shared_pages.specs.Counts.{Names, AreCounted};
 
     ghost Value = { Names };
 
     ghost view = { λ n. record {
       entries = n.entries.items;
       limit = length n.owners;
-      used = length n.owners - occurs 0 n.owners;
     } };
 
     ghost invariant = { λ n. AreCounted n.entries.items n.owners };
@@ -33,7 +32,7 @@ impl Model for Naming {
 impl Naming {
     /// No entries, and the number 0 alone.
     pub(crate) fn new(alloc: Global) -> Result<Naming, AllocError>
-        ensures { IfOk result (λ n. n ≡ record { entries = []; limit = 1; used = 1 }) }
+        ensures { IfOk result (λ n. n ≡ record { entries = []; limit = 1 }) }
     {
         let owners = Pool::new(alloc)?;
         Ok(Naming {
@@ -59,7 +58,7 @@ impl Naming {
 
     /// How many numbers are 0 or named.
     pub(crate) fn used(&self) -> usize
-        ensures { result ≡ self.now.used }
+        ensures { result ≡ different self.now.entries + 1 }
     {
         self.owners.used()
     }
@@ -99,7 +98,10 @@ impl Naming {
         requires from { from < length self.old.entries }
         requires place { at < length self.old.entries }
         requires empty { slice_index self.old.entries at ≡ 0 }
-        ensures { self.new ≡ record self.old { entries = slice_set self.old.entries at (slice_index self.old.entries from) } }
+        ensures names { self.new ≡ record self.old {
+          entries = slice_set self.old.entries at (slice_index self.old.entries from);
+        } }
+        ensures used { different self.new.entries ≡ different self.old.entries }
     {
         let p = self.entries[from];
         self.owners.more_but_zero(p);
@@ -111,7 +113,7 @@ impl Naming {
         requires place { at < length self.old.entries }
         ensures entries { self.new.entries ≡ slice_set self.old.entries at 0 }
         ensures limit { self.new.limit ≡ self.old.limit }
-        ensures used { self.new.used + one_if (own_at self.old.entries at) ≡ self.old.used }
+        ensures used { different self.new.entries + one_if (own_at self.old.entries at) ≡ different self.old.entries }
     {
         self.owners.less_but_zero(self.entries[at]);
         self.entries[at] = 0;
@@ -124,7 +126,8 @@ impl Naming {
         requires shared { IsShared self.old.entries at }
         ensures other { IfSome result (λ p. (0 < p) × (p < self.old.limit)) }
         ensures unnamed { IfSome result (λ p. occurs p self.old.entries ≡ 0) }
-        ensures some { IfSome result (λ p. self.new ≡ record self.old { entries = slice_set self.old.entries at p; used = self.old.used + 1 }) }
+        ensures some { IfSome result (λ p. self.new ≡ record self.old { entries = slice_set self.old.entries at p }) }
+        ensures used { IfSome result (λ _. different self.new.entries ≡ different self.old.entries + 1) }
         ensures none { IfNone result (self.new ≡ self.old) }
     {
         let p = self.owners.take_free()?;
@@ -139,7 +142,11 @@ impl Naming {
         requires shared { IsShared self.old.entries at }
         requires few { self.old.limit < 2 ^ 32 }
         ensures unnamed { occurs self.old.limit self.old.entries ≡ 0 }
-        ensures ok { OnOk result (self.new ≡ record { entries = slice_set self.old.entries at self.old.limit; limit = self.old.limit + 1; used = self.old.used + 1 }) }
+        ensures ok { OnOk result (self.new ≡ record {
+          entries = slice_set self.old.entries at self.old.limit;
+          limit = self.old.limit + 1;
+        }) }
+        ensures used { OnOk result (different self.new.entries ≡ different self.old.entries + 1) }
         ensures err { OnErr result (self.new ≡ self.old) }
     {
         let p = self.owners.len() as u32;

@@ -1,6 +1,6 @@
 //! Pages in one vector of bytes: the bytes of page 0, of page 1, and so on.
 ghost use Rattle.std.specs.Prelude.{◌≡◌, ◌≢◌, ℕ, ◌+◌, ◌*◌, ◌^◌, ◌<◌, ◌≤◌, ◌⊎◌, length, slice_index, slice_set, IfOk, OnOk, OnErr};
-ghost use Rattle.shared_pages.specs.Counts.{occurs, IsShared};
+ghost use Rattle.shared_pages.specs.Counts.{occurs, different, IsShared};
 ghost use Rattle.shared_pages.specs.Rows.{IsRenewed};
 
 use crate::naming::Naming;
@@ -34,7 +34,7 @@ fn fresh_page(tables: &mut Naming, bytes: &mut Vec<u8>, at: usize) -> Result<u32
     ensures unnamed { IfOk result (λ p. occurs p tables.old.entries ≡ 0) }
     ensures below { IfOk result (λ p. p < tables.new.limit) }
     ensures entries { IfOk result (λ p. tables.new.entries ≡ slice_set tables.old.entries at p) }
-    ensures used { OnOk result (tables.new.used ≡ tables.old.used + 1) }
+    ensures used { OnOk result (different tables.new.entries ≡ different tables.old.entries + 1) }
     ensures pages { PAGE_BYTES * tables.new.limit ≤ length bytes.new.items }
     ensures longer { length bytes.old.items ≤ length bytes.new.items }
     ensures same { (i : ℕ) → slice_index bytes.new.items i ≡ slice_index bytes.old.items i }
@@ -77,8 +77,9 @@ pub(crate) fn copied_page(
     requires pages { PAGE_BYTES * tables.old.limit ≤ length bytes.old.items }
     ensures ok { IfOk result (λ p.
         IsRenewed tables.old tables.new bytes.old.items bytes.new.items at p) }
-    ensures used { OnOk result (tables.new.used ≡ tables.old.used + 1) }
+    ensures used { OnOk result (different tables.new.entries ≡ different tables.old.entries + 1) }
     ensures pages { PAGE_BYTES * tables.new.limit ≤ length bytes.new.items }
+    ensures longer { length bytes.old.items ≤ length bytes.new.items }
     ensures err { OnErr result (tables.new ≡ tables.old) }
     ensures same { OnErr result ((i : ℕ) → slice_index bytes.new.items i ≡ slice_index bytes.old.items i) }
 {

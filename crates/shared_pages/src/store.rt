@@ -1,15 +1,17 @@
 //! The store of memories and pages.
-ghost use Rattle.std.specs.Prelude.{max, take, drop, ◌%◌, ◌≡◌, ◌≢◌, ℕ, ◌+◌, ◌-◌, ◌*◌, ◌/◌, ◌^◌, ◌<◌, ◌≤◌, ◌++◌, ◌==◌, [], true, None, Some, length, slice_index, slice_set, IfOk, IfSome, IfNone, OnOk, OnErr};
-ghost use Rattle.shared_pages.specs.Store.{memory, the_memory, IsIn, owns, written, unowned, taken, IsKept, IsReserved, own_count, own_page, blank_page};
+ghost use Rattle.std.specs.Prelude.{max, take, drop, ◌%◌, ◌≡◌, ◌≢◌, ℕ, ◌+◌, ◌/◌, ◌<◌, ◌≤◌, true, None, length, slice_index, IfOk, OnOk, OnErr, Some};
 ghost use Rattle.std.specs.List.{All};
-ghost use Rattle.shared_pages.specs.Counts.{one_if};
+ghost use Rattle.shared_pages.specs.Opening.{IsBegun, IsBetween, are_zero, full_count, zero_memory};
 ghost use Rattle.shared_pages.specs.Size.{memory_pages};
+ghost use Rattle.shared_pages.specs.Store.{memory, the_memory, IsIn, owns, own_count, used_pages, written, IsMadeOwn, IsReserved};
 
 use crate::naming::Naming;
+use crate::opening::open;
 use crate::pages::{PAGE, copied_page, page_room};
 use crate::pool::Pool;
 use crate::rows::{MEMORY_PAGES, clear_row, make_room, new_row, share_row};
 use am_base::{MEMORY_BYTES, OutOfMemory, PAGE_BYTES};
+use lane_ops::page_differs;
 use std::alloc::Global;
 use std::marker::Model;
 
@@ -27,9 +29,9 @@ impl Model for MemId {
 }
 
 /// Memories of `MEMORY_BYTES` bytes each, in pages of `PAGE_BYTES` that memories share until one of
-/// them is to be written. Contracts see a memory's bytes, and for each of its pages whether it is
-/// the memory's own, which no other memory shares, and whether it is the zero page, which all
-/// share.
+/// them is to be written. Contracts see a memory's bytes and the number of each of its pages. Two
+/// memories share a page where they have one number, and number 0 is the zero page. A page is a
+/// memory's own if it isn't the zero page and stands once among the pages of all memories.
 #[derive(Drop)]
 pub struct PageStore {
     /// A number that has an owner is a memory's.
@@ -55,7 +57,7 @@ impl PageStore {
     /// Returns a store without a memory, in which the zero page alone is used.
     pub fn new(alloc: Global) -> Result<PageStore, OutOfMemory>
         ensures empty { IfOk result (λ s. (k : ℕ) → memory s k ≡ None) }
-        ensures used { IfOk result (λ s. s.used ≡ 1) }
+        ensures used { IfOk result (λ s. used_pages s ≡ 1) }
         ensures peak { IfOk result (λ s. s.peak ≡ 1) }
     {
         let slots = Pool::new(alloc)?;
@@ -73,14 +75,15 @@ impl PageStore {
 
     /// Returns how many pages are the zero page or in a memory.
     pub fn used(&self) -> u64
-        ensures { result ≡ self.now.used }
+        ensures { result ≡ used_pages self.now }
     {
         self.tables.used() as u64
     }
 
     /// Returns the greatest number of pages that were used at once so far.
     pub fn peak(&self) -> u64
-        ensures { result ≡ self.now.peak }
+        ensures value { result ≡ self.now.peak }
+        ensures most { used_pages self.now ≤ result }
     {
         self.peak
     }
@@ -127,18 +130,63 @@ impl PageStore {
         self.bytes[page * PAGE + at % PAGE] = byte;
     }
 
-    /// Adds a memory with the bytes of another one. It takes no page: afterwards neither of the two
-    /// has a page of its own. It copies a table of one entry for each page. On an error the store
-    /// is as it was.
+    /// Returns whether the bytes of a page are all 0.
+    pub(crate) fn is_zero(&self, page: &[u8]) -> bool
+        requires { length page.now ≡ PAGE_BYTES }
+        ensures { result ≡ are_zero page.now }
+    {
+        !page_differs(page, &self.bytes[..PAGE])
+    }
+
+    /// Adds a memory of zeros, of which every page is the zero page.
+    fn begin_empty(&mut self) -> Result<MemId, OutOfMemory>
+        ensures fresh { IfOk result (λ n. memory self.old n ≡ None) }
+        ensures begun { IfOk result (λ n. memory self.new n ≡ Some zero_memory) }
+        ensures others { IfOk result (λ n. (k : ℕ) → k ≢ n → memory self.new k ≡ memory self.old k) }
+        ensures used { used_pages self.new ≡ used_pages self.old }
+        ensures peak { self.new.peak ≡ self.old.peak }
+        ensures most { OnOk result (used_pages self.new ≤ self.new.peak) }
+        ensures err { OnErr result (self.new ≡ self.old) }
+    {
+        let number = new_row(&mut self.slots, &mut self.tables)?;
+        Ok(MemId { number })
+    }
+
+    /// Adds a memory with these bytes. It takes one page for each page of them that has a byte
+    /// other than 0. After a refusal every memory is as it was, and so is `used`.
+    pub fn begin(&mut self, _alloc: Global, bytes: &[u8]) -> Result<MemId, OutOfMemory>
+        requires { length bytes.now ≡ MEMORY_BYTES }
+        ensures fresh { IfOk result (λ n. memory self.old n ≡ None) }
+        ensures begun { IfOk result (λ n. IsBegun self.new n bytes.now) }
+        ensures others { IfOk result (λ n. (k : ℕ) → k ≢ n → memory self.new k ≡ memory self.old k) }
+        ensures used { OnOk result (used_pages self.new ≡ used_pages self.old + full_count bytes.now) }
+        ensures peak { OnOk result (self.new.peak ≡ max self.old.peak (used_pages self.new)) }
+        ensures err { OnErr result ((k : ℕ) → memory self.new k ≡ memory self.old k) }
+        ensures err_used { OnErr result (used_pages self.new ≡ used_pages self.old) }
+        ensures err_peak { OnErr result (IsBetween self.old.peak self.new.peak
+            (max self.old.peak (used_pages self.old + full_count bytes.now))) }
+    {
+        let id = self.begin_empty()?;
+        match open(self, &id, bytes) {
+            Ok(()) => Ok(id),
+            Err(refused) => {
+                self.release(id);
+                Err(refused)
+            }
+        }
+    }
+
+    /// Adds a memory that is equal to another one: it has the same bytes in the same pages. So it
+    /// takes no page, and afterwards neither of the two has a page of its own. It copies a table of
+    /// one entry for each page. After a refusal the store is as it was.
     pub fn fork(&mut self, _alloc: Global, id: &MemId) -> Result<MemId, OutOfMemory>
         requires known { IsIn self.old id.now }
         ensures fresh { IfOk result (λ n. memory self.old n ≡ None) }
-        ensures forked { IfOk result (λ n. memory self.new n ≡ Some (unowned (the_memory self.old id.now))) }
-        ensures old { OnOk result (memory self.new id.now ≡ Some (unowned (the_memory self.old id.now))) }
-        ensures others { IfOk result (λ n. (k : ℕ) → k ≢ n → k ≢ id.now → memory self.new k ≡ memory self.old k) }
-        ensures err { OnErr result (self.new ≡ self.old) }
-        ensures used { self.new.used ≡ self.old.used }
+        ensures forked { IfOk result (λ n. memory self.new n ≡ memory self.old id.now) }
+        ensures others { IfOk result (λ n. (k : ℕ) → k ≢ n → memory self.new k ≡ memory self.old k) }
+        ensures used { used_pages self.new ≡ used_pages self.old }
         ensures peak { self.new.peak ≡ self.old.peak }
+        ensures err { OnErr result (self.new ≡ self.old) }
     {
         let number = new_row(&mut self.slots, &mut self.tables)?;
         share_row(&mut self.tables, id.number as usize, number as usize);
@@ -146,17 +194,10 @@ impl PageStore {
     }
 
     /// Makes a page of a memory its own, with the bytes that it has.
-    fn take_page(&mut self, id: &MemId, page: usize) -> Result<(), OutOfMemory>
+    pub(crate) fn take_page(&mut self, id: &MemId, page: usize) -> Result<(), OutOfMemory>
         requires known { IsIn self.old id.now }
         requires range { page < memory_pages }
-        ensures own { OnOk result (own_page self.new id.now page ≡ true) }
-        ensures ok { OnOk result (memory self.new id.now ≡ Some (taken (the_memory self.old id.now) page)) }
-        ensures others { OnOk result ((k : ℕ) → k ≢ id.now → IsKept self.old self.new k) }
-        ensures blank { OnOk result (blank_page self.old id.now page ≡ true →
-            (k : ℕ) → k ≢ id.now → memory self.new k ≡ memory self.old k) }
-        ensures used { OnOk result
-            (self.new.used + one_if (own_page self.old id.now page) ≡ self.old.used + 1) }
-        ensures peak { self.new.peak ≡ max self.old.peak self.new.used }
+        ensures taken { OnOk result (IsMadeOwn self.old self.new id.now page) }
         ensures err { OnErr result (self.new ≡ self.old) }
     {
         let at = id.number as usize * MEMORY_PAGES + page;
@@ -184,12 +225,13 @@ impl PageStore {
         Ok(())
     }
 
-    /// Ends a memory. Its own pages are free again, and `used` falls by their number.
+    /// Ends a memory. No other memory changes. Its own pages are free again, and `used` falls by
+    /// their number.
     pub fn release(&mut self, id: MemId)
         requires known { IsIn self.old id }
         ensures gone { memory self.new id ≡ None }
-        ensures others { (k : ℕ) → k ≢ id → IsKept self.old self.new k }
-        ensures used { self.new.used + own_count (the_memory self.old id) ≡ self.old.used }
+        ensures others { (k : ℕ) → k ≢ id → memory self.new k ≡ memory self.old k }
+        ensures used { used_pages self.new + own_count self.old id ≡ used_pages self.old }
         ensures peak { self.new.peak ≡ self.old.peak }
     {
         let MemId { number } = id;

@@ -1,4 +1,3 @@
-use Rattle.shared_pages.proofs.ForkSteps.{once_from_places, own_shared, own_kept, copy_seen, kept_seen}
 use Rattle.std.proofs.Common.{arith}
 use Rattle.shared_pages.proofs.RowSteps.{extended}
 use Rattle.shared_pages.proofs.rows.make_room.Goals as goal

@@ -1,9 +1,8 @@
-use Rattle.std.proofs.Common.{arith, ◌≡◌, length, ap, ◌<◌, ◌+◌, ◌-◌, get_or, set, List, ℕ, ◌∙◌, sym, subst}
+use Rattle.std.proofs.Common.{arith, ◌≡◌, length, ap, ◌<◌, get_or, set, List, ℕ, ◌∙◌, sym, subst}
 use Rattle.std.proofs.lemmas.List.{get_or_default}
-use Rattle.shared_pages.specs.Counts.{Names, AreCounted, one_less, one_if, occurs}
-use Rattle.shared_pages.specs.Store.{own_at}
+use Rattle.shared_pages.specs.Counts.{Names, AreCounted, one_less}
 use Rattle.shared_pages.proofs.Owners.{occurs_at}
-use Rattle.shared_pages.proofs.Named.{used_cleared, cleared, length-one_less}
+use Rattle.shared_pages.proofs.Named.{used_cleared, cleared}
 use Rattle.shared_pages.proofs.naming.Naming.clear.Goals as goal
 
 pub less_but_zero-requires : goal.less_but_zero-requires
@@ -33,11 +32,6 @@ invariant_of-self c =
 pub returns-clause-used : goal.returns-clause-used
 returns-clause-used c =
     let es = c.self.inside.entries.items in
-    let owners = c.self.inside.owners in
-    let entries : es ≡ c.args.self.now.entries = ap (λ (n : Names). n.entries) c.self.view_is in
-    let long = ap length entries in
+    let long = ap (λ (n : Names). length n.entries) c.self.view_is in
     let h : c.args.at < length es = omega (arith, long) in
-    let p_is : c.index.result.now ≡ get_or es c.args.at 0 = c.index.ensures ∙ get_or_default es c.args.at c.index.result.now 0 h in
-    rw (← c.self.view_is)
-    (ap (λ (cs : List ℕ). (length cs - occurs 0 cs) + one_if (own_at es c.args.at)) (c.less_but_zero.ensures ∙ ap (one_less owners) p_is)
-    ∙ used_cleared es owners c.args.at c.self.invariant h)
+    rw (← c.self.view_is) (used_cleared es c.self.inside.owners c.args.at c.self.invariant h)

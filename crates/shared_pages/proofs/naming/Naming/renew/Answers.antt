@@ -1,8 +1,8 @@
-use Rattle.std.proofs.Common.{arith, ◌≡◌, length, ap, ◌<◌, ◌-◌, List, ℕ, get_or, set, subst, sym, ◌∙◌}
+use Rattle.std.proofs.Common.{arith, ◌≡◌, length, ap, ◌<◌, ◌+◌, List, ℕ, get_or, set, subst, sym, ◌∙◌}
 use Rattle.std.proofs.lemmas.List.{get_or_default}
-use Rattle.shared_pages.specs.Counts.{Names, occurs, one_less, IsShared}
+use Rattle.shared_pages.specs.Counts.{Names, different, one_less, IsShared}
 use Rattle.shared_pages.proofs.Owners.{below_from_free}
-use Rattle.shared_pages.proofs.Named.{renewed, seen_renewed, set_more, names_of}
+use Rattle.shared_pages.proofs.Named.{seen_renewed, used_renewed, names_of}
 use Rattle.shared_pages.proofs.naming.Naming.renew.Goals as goal
 
 pub returns-clause-some : goal.returns-clause-some
@@ -10,12 +10,21 @@ returns-clause-some c =
     let es = c.self.inside.entries.items in
     let p = c.in_ok-p.p in
     let entries : es ≡ c.args.self.now.entries = ap (λ (n : Names). n.entries) c.self.view_is in
-    let shared : IsShared es c.args.at = subst (λ (xs : List ℕ). IsShared xs c.args.at) (sym entries) c.requires.shared in
     let h : c.args.at < length es = let long = ap length entries in omega (arith, long) in
     let old_is : c.index.result.now ≡ get_or es c.args.at 0 = c.index.ensures ∙ get_or_default es c.args.at c.index.result.now 0 h in
-    let below = below_from_free c.self.inside.owners p c.in_ok-p.ensures.free in
     rw (← c.self.view_is)
     (ap (λ (cs : List ℕ). names_of (set es c.args.at p) cs) (c.less_but_zero.ensures
     ∙ ap (λ (cs : List ℕ). one_less cs c.index.result.now) c.in_ok-p.ensures.taken
     ∙ ap (λ (q : ℕ). one_less (set c.self.inside.owners p 1) q) old_is)
-    ∙ seen_renewed es c.self.inside.owners c.args.at p c.self.invariant shared below c.in_ok-p.ensures.free)
+    ∙ seen_renewed es c.self.inside.owners c.args.at p)
+
+pub returns-clause-used : goal.returns-clause-used
+returns-clause-used c =
+    let es = c.self.inside.entries.items in
+    let p = c.in_ok-p.p in
+    let entries : es ≡ c.args.self.now.entries = ap (λ (n : Names). n.entries) c.self.view_is in
+    let shared : IsShared es c.args.at = subst (λ (xs : List ℕ). IsShared xs c.args.at) (sym entries) c.requires.shared in
+    let h : c.args.at < length es = let long = ap length entries in omega (arith, long) in
+    let below = below_from_free c.self.inside.owners p c.in_ok-p.ensures.free in
+    used_renewed es c.self.inside.owners c.args.at p c.self.invariant h shared c.in_ok-p.ensures.other below c.in_ok-p.ensures.free
+    ∙ ap (λ (xs : List ℕ). different xs + 1) entries

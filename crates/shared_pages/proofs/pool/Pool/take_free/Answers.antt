@@ -1,4 +1,4 @@
-use Rattle.std.proofs.Common.{◌≡◌, ◌<◌, ◌++◌, ◌∷◌, [], subst, List, ℕ, sym, set, length, arith}
+use Rattle.std.proofs.Common.{◌<◌, ◌++◌, ◌∷◌, [], subst, List, ℕ, sym, length, arith}
 use Rattle.std.specs.Vec.{vec_capacity}
 use Rattle.shared_pages.specs.Counts.{IsPool}
 use Rattle.shared_pages.proofs.Owners.{other_free, pool_taken, free_is, below_from_free}

@@ -1,18 +1,16 @@
 use Rattle.shared_pages.specs.Size.{memory_pages}
-use Rattle.std.proofs.Common.{◌≡◌, ◌≢◌, ◌<◌, ◌≤◌, ◌+◌, ◌*◌, ℕ, List, None, Some, Bool, true, inl, inr, subst, sym, length, arith, get_or, ap, ◌∙◌}
-use Rattle.shared_pages.specs.Store.{Store, Memory, IsIn, seen, memory, the_memory, memory_seen, memory_at, unowned, own_at, is_live}
-use Rattle.std.specs.Prelude.{if◌then◌else◌, nat_lt, ◌&&◌}
-use Rattle.std.proofs.lemmas.Bool.{cases_lt}
-use Rattle.shared_pages.proofs.Named.{below_nonzero}
-use Rattle.shared_pages.proofs.ForkSteps.{copy_seen, kept_seen, own_shared, own_shared_from, own_kept, live_now, outside, row_apart, own_extended}
-use Rattle.shared_pages.proofs.Views.{live_below, live_owned, live_positive, none_at, memory_is, at_tabulate}
+use Rattle.std.proofs.Common.{◌≡◌, ◌+◌, ◌*◌, ℕ, Some, sym, arith, get_or, ap, ◌∙◌}
+use Rattle.shared_pages.specs.Store.{Store, Memory, seen, memory, used_pages}
+use Rattle.shared_pages.proofs.ForkSteps.{added_others, copied_row, copy_seen, forked_store, other_row, taken_live}
+use Rattle.shared_pages.proofs.Kept.{some_when}
+use Rattle.shared_pages.proofs.Views.{known_in, live_below, live_is, live_owned, none_at, not_live, used_seen}
 use Rattle.shared_pages.proofs.store.PageStore.fork.Goals as goal
 
 pub share_row-requires-clause-from : goal.share_row-requires-clause-from
 share_row-requires-clause-from c =
     let f = c.self.inside in
-    let known : IsIn (seen f.slots f.tables f.bytes.items f.peak) c.id.inside.number =
-    subst (λ (s : Store). IsIn s c.id.inside.number) (sym c.self.view_is) (subst (λ (m : ℕ). IsIn c.args.self.now m) (sym c.id.view_is) c.requires.known) in
+    let known = known_in (seen f.slots f.tables f.bytes.items f.peak) c.args.self.now c.id.inside.number c.args.id.now c.self.view_is c.id.view_is
+    c.requires.known in
     let below = live_below f.slots f.tables.entries f.bytes.items c.id.inside.number known in
     let tables = c.self.invariant.tables in
     let long = c.new_row.ensures.tables.long in
@@ -21,12 +19,25 @@ share_row-requires-clause-from c =
 pub share_row-requires-clause-apart : goal.share_row-requires-clause-apart
 share_row-requires-clause-apart c e =
     let f = c.self.inside in
-    let known : IsIn (seen f.slots f.tables f.bytes.items f.peak) c.id.inside.number =
-    subst (λ (s : Store). IsIn s c.id.inside.number) (sym c.self.view_is) (subst (λ (m : ℕ). IsIn c.args.self.now m) (sym c.id.view_is) c.requires.known) in
+    let known = known_in (seen f.slots f.tables f.bytes.items f.peak) c.args.self.now c.id.inside.number c.args.id.now c.self.view_is c.id.view_is
+    c.requires.known in
     let owned = live_owned f.slots f.tables.entries f.bytes.items c.id.inside.number known in
     let free : get_or f.slots c.in_ok-number.number 0 ≡ 0 = c.in_ok-number.ensures.free in
     let same : get_or f.slots c.id.inside.number 0 ≡ get_or f.slots c.in_ok-number.number 0 = ap (λ (m : ℕ). get_or f.slots m 0) e in
     omega (arith, owned, free, same)
+
+pub share_row-requires-clause-empty : goal.share_row-requires-clause-empty
+share_row-requires-clause-empty c i low =
+    let n = c.in_ok-number.number in
+    c.new_row.ensures.tables.same (n * memory_pages + i)
+    ∙ c.self.invariant.dead n i (not_live c.self.inside.slots n c.in_ok-number.ensures.free) low
+
+pub invariant_of-self-2 : goal.invariant_of-self-2
+invariant_of-self-2 c =
+    let f = c.self.inside in
+    forked_store f.slots c.new_row.new.slots f.tables c.new_row.new.tables c.share_row.new.tables f.bytes.items f.peak c.id.inside.number
+    c.in_ok-number.number c.self.invariant c.in_ok-number.ensures.taken c.in_ok-number.ensures.other c.new_row.ensures.tables c.new_row.ensures.rows
+    c.share_row.ensures
 
 pub returns-clause-fresh : goal.returns-clause-fresh
 returns-clause-fresh c =
@@ -39,98 +50,32 @@ returns-clause-forked c =
     let f = c.self.inside in
     let m = c.id.inside.number in
     let n = c.in_ok-number.number in
-    let mid = c.new_row.new.tables in
     let new = c.share_row.new.tables in
-    let known : IsIn (seen f.slots f.tables f.bytes.items f.peak) m =
-    subst (λ (s : Store). IsIn s m) (sym c.self.view_is) (subst (λ (k : ℕ). IsIn c.args.self.now k) (sym c.id.view_is) c.requires.known) in
-    let below = live_below f.slots f.tables.entries f.bytes.items m known in
-    let tables = c.self.invariant.tables in
-    let longer = c.new_row.ensures.tables.long in
-    let rows = c.new_row.ensures.rows in
-    let taken = c.in_ok-number.ensures.taken in
-    let in_new = taken.below in
-    let owned = live_owned f.slots f.tables.entries f.bytes.items m known in
-    let free : get_or f.slots n 0 ≡ 0 = c.in_ok-number.ensures.free in
-    let apart : m ≢ n = (λ e. let same : get_or f.slots m 0 ≡ get_or f.slots n 0 = ap (λ (k : ℕ). get_or f.slots k 0) e in omega (arith, owned, free, same)) in
-    let was : the_memory c.args.self.now c.args.id.now ≡ memory_seen f.tables.entries f.bytes.items m =
-    sym (ap (λ (s : Store). the_memory s m) c.self.view_is ∙ ap (λ (k : ℕ). the_memory c.args.self.now k) c.id.view_is)
-    ∙ memory_is f.slots f.tables f.bytes.items f.peak m known in
-    let copy = copy_seen f.tables.entries new.entries f.bytes.items m n
-    (λ i low. c.share_row.ensures.copied i low ∙ c.new_row.ensures.tables.same (m * memory_pages + i))
-    (λ i low. own_shared mid new m n i c.share_row.ensures apart (omega (arith, below, tables, longer)) (omega (arith, in_new, rows)) low) in
-    let live = live_now c.new_row.new.slots n c.in_ok-number.ensures.other (let one = taken.taken in omega (arith, one)) in
-    at_tabulate (length c.new_row.new.slots) (memory_at c.new_row.new.slots new.entries f.bytes.items) n None in_new
-    ∙ ap (λ (b : Bool). if b then Some (memory_seen new.entries f.bytes.items n) else None) live
-    ∙ ap (λ (x : Memory). Some x) copy ∙ ap (λ (x : Memory). Some (unowned x)) (sym was)
-
-pub returns-clause-old : goal.returns-clause-old
-returns-clause-old c =
-    let f = c.self.inside in
-    let m = c.id.inside.number in
-    let n = c.in_ok-number.number in
-    let mid = c.new_row.new.tables in
-    let new = c.share_row.new.tables in
-    let known : IsIn (seen f.slots f.tables f.bytes.items f.peak) m =
-    subst (λ (s : Store). IsIn s m) (sym c.self.view_is) (subst (λ (k : ℕ). IsIn c.args.self.now k) (sym c.id.view_is) c.requires.known) in
-    let below = live_below f.slots f.tables.entries f.bytes.items m known in
-    let tables = c.self.invariant.tables in
-    let longer = c.new_row.ensures.tables.long in
-    let rows = c.new_row.ensures.rows in
-    let taken = c.in_ok-number.ensures.taken in
-    let in_new = taken.below in
-    let owned = live_owned f.slots f.tables.entries f.bytes.items m known in
-    let free : get_or f.slots n 0 ≡ 0 = c.in_ok-number.ensures.free in
-    let apart : m ≢ n = (λ e. let same : get_or f.slots m 0 ≡ get_or f.slots n 0 = ap (λ (k : ℕ). get_or f.slots k 0) e in omega (arith, owned, free, same)) in
-    let was : the_memory c.args.self.now c.args.id.now ≡ memory_seen f.tables.entries f.bytes.items m =
-    sym (ap (λ (s : Store). the_memory s m) c.self.view_is ∙ ap (λ (k : ℕ). the_memory c.args.self.now k) c.id.view_is)
-    ∙ memory_is f.slots f.tables f.bytes.items f.peak m known in
-    let copy = copy_seen f.tables.entries new.entries f.bytes.items m m
-    (λ i low. outside mid new m n (m * memory_pages + i) c.share_row.ensures (row_apart m n i apart low)
-    ∙ c.new_row.ensures.tables.same (m * memory_pages + i))
-    (λ i low. own_shared_from mid new m n i c.share_row.ensures apart (omega (arith, below, tables, longer)) (omega (arith, in_new, rows)) low) in
-    let some = live_positive f.slots f.tables.entries f.bytes.items m known in
-    let kept : get_or c.new_row.new.slots m 0 ≡ get_or f.slots m 0 = taken.others m apart in
-    let live = live_now c.new_row.new.slots m some (omega (arith, owned, kept)) in
-    let long = taken.long in
-    sym (ap (λ (k : ℕ). memory (seen c.new_row.new.slots new f.bytes.items f.peak) k) c.id.view_is)
-    ∙ at_tabulate (length c.new_row.new.slots) (memory_at c.new_row.new.slots new.entries f.bytes.items) m None (omega (arith, below, long))
-    ∙ ap (λ (b : Bool). if b then Some (memory_seen new.entries f.bytes.items m) else None) live
-    ∙ ap (λ (x : Memory). Some x) copy ∙ ap (λ (x : Memory). Some (unowned x)) (sym was)
+    let known = known_in (seen f.slots f.tables f.bytes.items f.peak) c.args.self.now m c.args.id.now c.self.view_is c.id.view_is c.requires.known in
+    some_when c.new_row.new.slots new.entries f.bytes.items n
+    (taken_live f.slots c.new_row.new.slots n c.in_ok-number.ensures.taken c.in_ok-number.ensures.other)
+    ∙ ap (λ (x : Memory). Some x) (copy_seen f.tables.entries new.entries f.bytes.items m n (λ i low.
+    copied_row f.tables c.new_row.new.tables new m n i c.new_row.ensures.tables c.share_row.ensures low))
+    ∙ sym (live_is f.slots f.tables.entries f.bytes.items m known)
+    ∙ ap (λ (s : Store). memory s m) c.self.view_is
+    ∙ ap (λ (k : ℕ). memory c.args.self.now k) c.id.view_is
 
 pub returns-clause-others : goal.returns-clause-others
-returns-clause-others c k ne nm =
+returns-clause-others c k ne =
     let f = c.self.inside in
     let m = c.id.inside.number in
     let n = c.in_ok-number.number in
-    let mid = c.new_row.new.tables in
     let new = c.share_row.new.tables in
-    let slots = c.new_row.new.slots in
-    let known : IsIn (seen f.slots f.tables f.bytes.items f.peak) m =
-    subst (λ (s : Store). IsIn s m) (sym c.self.view_is) (subst (λ (k : ℕ). IsIn c.args.self.now k) (sym c.id.view_is) c.requires.known) in
-    let below = live_below f.slots f.tables.entries f.bytes.items m known in
-    let tables = c.self.invariant.tables in
-    let longer = c.new_row.ensures.tables.long in
-    let taken = c.in_ok-number.ensures.taken in
-    let long = taken.long in
-    let other : k ≢ m = (λ e. nm (e ∙ c.id.view_is)) in
-    let kept : get_or slots k 0 ≡ get_or f.slots k 0 = taken.others k ne in
-    elim (cases_lt 0 (get_or f.slots k 0)) [
-      | inl owned ↦
-          let low = below_nonzero f.slots k owned in
-          let same : (i : ℕ) → i < memory_pages → get_or new.entries (k * memory_pages + i) 0 ≡ get_or f.tables.entries (k * memory_pages + i) 0 = (λ i h.
-          outside mid new m n (k * memory_pages + i) c.share_row.ensures (row_apart k n i ne h) ∙ c.new_row.ensures.tables.same (k * memory_pages + i)) in
-          let own : (i : ℕ) → i < memory_pages → own_at new.entries (k * memory_pages + i) ≡ own_at f.tables.entries (k * memory_pages + i) = (λ i h.
-          own_kept mid new m n (k * memory_pages + i) c.share_row.ensures
-          (λ j g. c.new_row.ensures.tables.same (n * memory_pages + j) ∙ c.self.invariant.dead n j c.in_ok-number.ensures.free g)
-          (omega (arith, below, tables, longer)) (row_apart k n i ne h) (row_apart k m i other h) (omega (arith, low, tables, longer, h))
-          ∙ own_extended f.tables mid (k * memory_pages + i) c.new_row.ensures.tables) in
-          at_tabulate (length slots) (memory_at slots new.entries f.bytes.items) k None (omega (arith, low, long))
-          ∙ ap (λ (q : ℕ). if (nat_lt 0 k && nat_lt 0 q) then Some (memory_seen new.entries f.bytes.items k) else None) kept
-          ∙ ap (λ (x : Memory). if is_live f.slots k then Some x else None) (kept_seen f.tables.entries new.entries f.bytes.items k same own)
-          ∙ sym (at_tabulate (length f.slots) (memory_at f.slots f.tables.entries f.bytes.items) k None low)
-          ∙ ap (λ (s : Store). memory s k) c.self.view_is
-      | inr none ↦
-          let z : get_or f.slots k 0 ≡ 0 = omega (arith, none) in
-          none_at slots new.entries f.bytes.items k (kept ∙ z) ∙ sym (none_at f.slots f.tables.entries f.bytes.items k z)
-          ∙ ap (λ (s : Store). memory s k) c.self.view_is
-    ]
+    added_others f.slots c.new_row.new.slots f.tables new f.bytes.items f.peak n k c.in_ok-number.ensures.taken ne (λ i low.
+    other_row f.tables c.new_row.new.tables new m n k i c.new_row.ensures.tables c.share_row.ensures ne low)
+    ∙ ap (λ (s : Store). memory s k) c.self.view_is
+
+pub returns-clause-used : goal.returns-clause-used
+returns-clause-used c =
+    let f = c.self.inside in
+    let was = used_seen f.slots f.tables f.bytes.items f.peak c.self.invariant in
+    let now = used_seen c.new_row.new.slots c.share_row.new.tables f.bytes.items f.peak (invariant_of-self-2 c) in
+    let is = ap used_pages c.self.view_is in
+    let more = c.new_row.ensures.tables.used in
+    let copied = c.share_row.ensures.used in
+    omega (arith, was, now, is, more, copied)

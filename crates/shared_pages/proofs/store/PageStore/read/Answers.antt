@@ -1,9 +1,9 @@
 use Rattle.am_base.specs.declared.limits.TheConstants.{PAGE_BYTES}
 use Rattle.shared_pages.specs.Size.{memory_pages}
-use Rattle.std.proofs.Common.{◌≡◌, ◌<◌, ◌+◌, ◌*◌, ◌/◌, ◌%◌, ℕ, subst, sym, length, arith, get_or, ap, ◌∙◌}
+use Rattle.std.proofs.Common.{◌≡◌, ◌+◌, ◌*◌, ◌/◌, ◌%◌, ℕ, subst, sym, arith, get_or, ap, ◌∙◌}
 use Rattle.std.proofs.lemmas.List.{get_or_default}
-use Rattle.shared_pages.specs.Store.{Store, IsIn, seen, the_memory, byte_at}
-use Rattle.shared_pages.proofs.Views.{table_in, read_seen, written_seen}
+use Rattle.shared_pages.specs.Store.{Store, IsIn, seen, the_memory}
+use Rattle.shared_pages.proofs.Views.{table_in, read_seen}
 use Rattle.shared_pages.proofs.store.PageStore.read.Goals as goal
 
 pub entry-page-requires : goal.entry-page-requires

@@ -1,6 +1,6 @@
 use Rattle.am_base.specs.declared.limits.TheConstants.{PAGE_BYTES}
 use Rattle.shared_pages.specs.Size.{memory_pages}
-use Rattle.std.proofs.Common.{◌≡◌, ◌<◌, ◌≤◌, ◌+◌, ◌*◌, ◌-◌, ◌/◌, ◌%◌, ℕ, List, sym, length, take, drop, arith, get_or, ap, ◌∙◌}
+use Rattle.std.proofs.Common.{◌≡◌, ◌<◌, ◌+◌, ◌*◌, ◌/◌, ◌%◌, ℕ, List, take, drop, arith, get_or, ap, ◌∙◌}
 use Rattle.shared_pages.specs.Store.{Store, seen, the_memory}
 use Rattle.shared_pages.proofs.Views.{known_in, table_in}
 use Rattle.shared_pages.proofs.Runs.{run_seen}

@@ -1,7 +1,7 @@
 use Rattle.am_base.specs.declared.limits.TheConstants.{PAGE_BYTES}
 use Rattle.shared_pages.specs.Size.{memory_pages}
-use Rattle.std.proofs.Common.{◌≡◌, ◌<◌, ◌≤◌, ◌+◌, ◌*◌, ◌/◌, ◌%◌, ℕ, true, subst, sym, length, arith, get_or, set, ap, ◌∙◌}
-use Rattle.shared_pages.specs.Store.{Store, IsIn, IsStore, owns, seen, the_memory, written}
+use Rattle.std.proofs.Common.{◌≡◌, ◌<◌, ◌+◌, ◌*◌, ◌/◌, ◌%◌, ℕ, true, subst, sym, arith, get_or, set, ap, ◌∙◌}
+use Rattle.shared_pages.specs.Store.{Store, IsIn, owns, seen, written}
 use Rattle.shared_pages.proofs.Views.{table_in, written_seen, written_kept, own_is, owns_seen}
 use Rattle.shared_pages.proofs.store.PageStore.write.Goals as goal
 
@@ -22,7 +22,7 @@ invariant_of-self c =
     let own : owns (seen f.slots f.tables f.bytes.items f.peak) m c.args.at ≡ true =
     ap (λ (s : Store). owns s m c.args.at) c.self.view_is ∙ ap (λ (k : ℕ). owns c.args.self.now k c.args.at) c.id.view_is ∙ c.requires.own in
     let is = own_is f.tables.entries (m * memory_pages + c.args.at / PAGE_BYTES) (sym
-    (owns_seen f.slots f.tables f.bytes.items f.peak m c.args.at known c.requires.range) ∙ own) in
+    (owns_seen f.slots f.tables f.bytes.items f.peak m c.args.at c.self.invariant known c.requires.range) ∙ own) in
     let some = is.0 in
     let page : c.entry-page.result ≡ get_or f.tables.entries (m * memory_pages + c.args.at / PAGE_BYTES) 0 = c.entry-page.ensures.value in
     written_kept f.slots f.tables f.bytes.items f.peak (c.entry-page.result * PAGE_BYTES + c.args.at % PAGE_BYTES) c.args.byte c.self.invariant (omega
