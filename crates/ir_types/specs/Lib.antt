@@ -1,0 +1,5 @@
+pub mod Definitions
+pub mod Named
+pub mod Graph
+pub mod Known
+pub mod Scalars
