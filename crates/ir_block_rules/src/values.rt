@@ -4,14 +4,12 @@ ghost use Rattle.am_base.specs.Word.{bits_of};
 ghost use Rattle.ir_rules.specs.Paths as spec;
 ghost use Rattle.ir_rules.specs.Calls.{returned_kind};
 ghost use Rattle.ir_rules.specs.Calls as calls;
-ghost use Rattle.ir_rules.specs.Entities as entities;
-ghost use Rattle.ir_rules.specs.Types as types;
 ghost use Rattle.ir_scopes.specs.Kinds.{kind_in};
 ghost use Rattle.ir_block_rules.specs.Alone.{kinds_alone, result_alone};
 
 use am_base::{Cast, Width};
 use code_form::TyScalar;
-use ir_scopes::{KindTable, has_value, is_call};
+use ir_scopes::{KindTable, has_value, is_call, same_result};
 use ir_tree::{Item, Op, Opd, TyText};
 
 fn bits(w: Width) -> u32
@@ -67,40 +65,6 @@ pub fn result_misplaced(item: &Item) -> bool
     match item {
         Item::Instr(Some(_), op) => !has_value(op.get()),
         Item::Instr(None, op) => has_value(op.get()) && !is_call(op.get()),
-        _ => false,
-    }
-}
-
-fn same_width(v: Width, w: Width) -> bool
-    ensures { result ≡ types.same_width v w }
-{
-    match (v, w) {
-        (Width::W1, Width::W1) => true,
-        (Width::W8, Width::W8) => true,
-        (Width::W16, Width::W16) => true,
-        (Width::W32, Width::W32) => true,
-        (Width::W64, Width::W64) => true,
-        _ => false,
-    }
-}
-
-fn same_kind(t: Option<TyScalar>, u: Option<TyScalar>) -> bool
-    ensures { result ≡ types.same_kind t u }
-{
-    match (t, u) {
-        (None, None) => true,
-        (Some(TyScalar::Int(v)), Some(TyScalar::Int(w))) => same_width(v, w),
-        (Some(TyScalar::Ptr), Some(TyScalar::Ptr)) => true,
-        _ => false,
-    }
-}
-
-fn same_result(t: Option<Option<TyScalar>>, u: Option<Option<TyScalar>>) -> bool
-    ensures { result ≡ entities.same_result t u }
-{
-    match (t, u) {
-        (None, None) => true,
-        (Some(t), Some(u)) => same_kind(t, u),
         _ => false,
     }
 }

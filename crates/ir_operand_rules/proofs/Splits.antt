@@ -44,4 +44,5 @@ module _ (kind : Kinds) (entities : List (Name × Entity)) (locals : List (Name 
       let vs = op_operands o in
       let taken = type_not_taken (kinds_alone kind) o in
       ap (λ b. b || taken) (each-split TypeDiffers vs)
-      ∙ moved (list_any (own_breaks (setting_in kind entities locals) TypeDiffers) vs) (list_any (index_breaks kind TypeDiffers) (flat_map (λ (v : Typed). indices_of v.1) vs)) taken
+      ∙ moved (list_any (own_breaks (setting_in kind entities locals) TypeDiffers) vs)
+      (list_any (index_breaks kind TypeDiffers) (flat_map (λ (v : Typed). indices_of v.1) vs)) taken

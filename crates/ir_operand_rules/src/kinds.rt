@@ -1,50 +1,19 @@
 //! Tests of the integers and pointers that types stand for.
 ghost use Rattle.std.specs.Prelude.{◌≡◌};
-ghost use Rattle.ir_rules.specs.Types as types;
 ghost use Rattle.ir_rules.specs.Operands as spec;
 
 use am_base::Width;
 use code_form::TyScalar;
+use ir_scopes::same_scalar;
 
-fn same_width(v: Width, w: Width) -> bool
-    ensures { result ≡ types.same_width v w }
-{
-    match (v, w) {
-        (Width::W1, Width::W1) => true,
-        (Width::W8, Width::W8) => true,
-        (Width::W16, Width::W16) => true,
-        (Width::W32, Width::W32) => true,
-        (Width::W64, Width::W64) => true,
-        _ => false,
-    }
-}
-
-pub fn same_scalar(t: TyScalar, u: TyScalar) -> bool
-    ensures { result ≡ types.same_scalar t u }
-{
-    match (t, u) {
-        (TyScalar::Int(v), TyScalar::Int(w)) => same_width(v, w),
-        (TyScalar::Ptr, TyScalar::Ptr) => true,
-        _ => false,
-    }
-}
-
-pub fn same_kind(t: Option<TyScalar>, u: Option<TyScalar>) -> bool
-    ensures { result ≡ types.same_kind t u }
-{
-    match (t, u) {
-        (None, None) => true,
-        (Some(t), Some(u)) => same_scalar(t, u),
-        _ => false,
-    }
-}
-
+/// Whether a type is a pointer, where an integer is needed.
 pub fn no_integer(t: Option<TyScalar>) -> bool
     ensures { result ≡ spec.no_integer t }
 {
     matches!(t, Some(TyScalar::Ptr))
 }
 
+/// Whether a type is an integer or a pointer other than `t`.
 pub fn not_of(t: TyScalar, u: Option<TyScalar>) -> bool
     ensures { result ≡ spec.not_of t u }
 {
@@ -54,12 +23,14 @@ pub fn not_of(t: TyScalar, u: Option<TyScalar>) -> bool
     }
 }
 
+/// Whether a type is an integer, where a pointer is needed.
 pub fn no_pointer(t: Option<TyScalar>) -> bool
     ensures { result ≡ spec.no_pointer t }
 {
     not_of(TyScalar::Ptr, t)
 }
 
+/// Whether a type is a pointer or an integer other than `i1`, which a condition is.
 pub fn no_condition(t: Option<TyScalar>) -> bool
     ensures { result ≡ spec.no_condition t }
 {
@@ -79,6 +50,7 @@ fn fits(w: Width, n: i128) -> bool
     }
 }
 
+/// Whether a number doesn't fit the width of a type that is an integer.
 pub fn number_out(t: Option<TyScalar>, n: i128) -> bool
     ensures { result ≡ spec.number_out t n }
 {

@@ -7,12 +7,12 @@ ghost use Rattle.ir_scopes.specs.Kinds.{kind_in};
 ghost use Rattle.ir_operand_rules.specs.Each as each;
 ghost use Rattle.ir_operand_rules.specs.Each.{setting_in, operand_breaks, index_breaks};
 
-use crate::kinds::{no_integer, number_out, same_scalar};
+use crate::kinds::{no_integer, number_out};
 use am_base::Width;
 use code_form::TyScalar;
 use ir_names::NameTable;
 use ir_rules::{Entity, Local};
-use ir_scopes::KindTable;
+use ir_scopes::{KindTable, same_scalar};
 use ir_tree::{Name, Opd, TyText};
 
 /// What the names in a function stand for.

@@ -5,10 +5,10 @@ ghost use Rattle.ir_rules.specs.Operands as spec;
 ghost use Rattle.ir_scopes.specs.Kinds.{kind_in};
 ghost use Rattle.ir_operand_rules.specs.Each.{kinds_alone};
 
-use crate::kinds::{no_condition, no_integer, no_pointer, same_kind};
+use crate::kinds::{no_condition, no_integer, no_pointer};
 use am_base::Cast;
 use code_form::TyScalar;
-use ir_scopes::KindTable;
+use ir_scopes::{KindTable, same_kind};
 use ir_tree::{Op, Opd, TyText};
 
 fn cast_differs(cast: Cast, from: Option<TyScalar>, to: Option<TyScalar>) -> bool

@@ -2,7 +2,7 @@
 ghost use Rattle.std.specs.Prelude.{◌≡◌, ◌<◌, ◌≤◌, ◌+◌, ◌-◌, ◌^◌, OnOk, IfOk, map};
 ghost use Rattle.ir_names.specs.Names.{firsts};
 ghost use Rattle.ir_rules.specs.Entities.{entities_of};
-ghost use Rattle.ir_rules.specs.Types.{result_kind};
+ghost use Rattle.ir_rules.specs.Types as types;
 ghost use Rattle.ir_scopes.specs.Globals as spec;
 ghost use Rattle.ir_scopes.specs.Globals.{with_declared, with_defined, with_entity};
 ghost use Rattle.ir_scopes.specs.Kinds.{kind_in};
@@ -25,8 +25,8 @@ struct Globals {
     functions: usize,
 }
 
-/// The integers and pointers that types stand for, in order.
-fn kinds_of(
+/// Returns the integers and pointers that types stand for, in order.
+pub fn kinds_of(
     alloc: Global,
     kinds: &KindTable,
     types: &[TyText],
@@ -54,9 +54,9 @@ fn kinds_of_params(
     Ok(list)
 }
 
-/// The type of a result. `None` for `void`.
-fn result_of(kinds: &KindTable, ty: &TyText) -> Option<Option<TyScalar>>
-    ensures { result ≡ result_kind (kind_in kinds.now.names) ty.now }
+/// Returns the type of a result. `None` for `void`.
+pub fn result_kind(kinds: &KindTable, ty: &TyText) -> Option<Option<TyScalar>>
+    ensures { result ≡ types.result_kind (kind_in kinds.now.names) ty.now }
 {
     match ty {
         TyText::Void => None,
@@ -77,7 +77,7 @@ fn add_declared(
 {
     let signature = Signature {
         params: kinds_of(alloc, kinds, params)?,
-        result: result_of(kinds, ty),
+        result: result_kind(kinds, ty),
     };
     globals.table.add(alloc, name, Entity::Declared(signature))
 }
@@ -96,7 +96,7 @@ fn add_defined(
 {
     let signature = Signature {
         params: kinds_of_params(alloc, kinds, params)?,
-        result: result_of(kinds, ty),
+        result: result_kind(kinds, ty),
     };
     let number = globals.functions;
     globals

@@ -1,0 +1,7 @@
+pub mod Tests
+pub mod Sets
+pub mod Operands
+pub mod Entries
+pub mod Buckets
+pub mod PortNumbers
+pub mod Alike

@@ -1,0 +1,4 @@
+pub mod Alone
+pub mod Numbers
+pub mod Ports
+pub mod Sources

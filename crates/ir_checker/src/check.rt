@@ -1,0 +1,105 @@
+//! The pass over the items of a module that finds its first fault.
+ghost use Rattle.std.specs.Prelude.{◌≡◌, ◌++◌, ◌∷◌, [], IfOk, OnOk};
+ghost use Rattle.ir_names.specs.Names.{firsts};
+ghost use Rattle.ir_rules.specs.Entities as spec;
+ghost use Rattle.ir_rules.specs.Rules.{fault};
+ghost use Rattle.ir_rules.specs.Settings.{Setting};
+ghost use Rattle.ir_rules.specs.Types.{type_defs};
+ghost use Rattle.ir_scopes.specs.Kinds.{kind_in};
+ghost use Rattle.ir_checker.specs.Judged.{AreOf};
+ghost use Rattle.ir_checker.specs.Passes.{AreKindsOf, Arrived, IsJudgedBy, opened};
+
+use crate::broken::{Known, Notes, TypeBreaks, notes_of};
+use crate::judge::rule_of;
+use am_base::OutOfMemory;
+use ir_names::NameTable;
+use ir_pass::{Frame, closed_frame, enter, is_end, is_head, leave, note, nothing_seen, step};
+use ir_rules::{Fault, Local};
+use ir_scopes::KindTable;
+use ir_tree::Item;
+use std::alloc::Global;
+
+/// What judges the items of a module, one after another, by the rules that ask for its types.
+pub trait TypeRules {
+    ghost use Rattle.ir_rules.specs.Types.{TypeDefs};
+    ghost use Rattle.std.specs.Prelude.{List};
+    ghost use Rattle.ir_tree.specs.declared.item.Item.{Item};
+
+    /// The type definitions of the module.
+    ghost defs: { Self → TypeDefs };
+    /// The items that are judged.
+    ghost above: { Self → List Item };
+
+    /// Judges the next item.
+    fn breaks(
+        &mut self,
+        alloc: Global,
+        known: &Known<'_>,
+        locals: &NameTable<Local>,
+        item: &Item,
+    ) -> Result<TypeBreaks, OutOfMemory>
+        ensures defs { defs self.new ≡ defs self.old }
+        ensures above { OnOk result (above self.new ≡ above self.old ++ item.now ∷ []) }
+        ensures broken { IfOk result (λ typed. (s : Setting)
+            → IsJudgedBy s (defs self.old) (above self.old) (kind_in known.now.kinds.now.names)
+            known.now.entities.now locals.now
+            → AreOf s item.now typed) };
+}
+
+/// Comes to an item, the first of `rest`, and over it.
+fn arrive(
+    alloc: Global,
+    kinds: &KindTable,
+    frame: &mut Frame,
+    rest: &[Item],
+    item: &Item,
+) -> Result<Notes, OutOfMemory>
+    ensures { let kind = kind_in kinds.now.names in
+        IfOk result (λ notes. Arrived kind frame.old rest.now item.now notes frame.new) }
+{
+    enter(alloc, kinds, frame, rest)?;
+    let notes = notes_of(&frame.before, item);
+    step(alloc, kinds, frame, item)?;
+    Ok(notes)
+}
+
+fn opens(inside: bool, item: &Item) -> bool
+    ensures { result ≡ opened inside item.now }
+{
+    is_head(item) || (inside && !is_end(item))
+}
+
+/// Returns the first item in text order that breaks a rule, with the least rule that it breaks;
+/// `None` iff each item keeps all rules. It takes time about linear in the items, where `rules`
+/// does.
+///
+/// `known` is what the names of the module stand for, and `rules` has judged no item.
+pub fn first_fault<R: TypeRules>(
+    alloc: Global,
+    known: &Known<'_>,
+    rules: &mut R,
+    items: &[Item],
+) -> Result<Option<Fault>, OutOfMemory>
+    requires kinds { AreKindsOf (kind_in known.now.kinds.now.names) (type_defs items.now) }
+    requires entities { known.now.entities.now
+        ≡ firsts (spec.entities_of (kind_in known.now.kinds.now.names) items.now) }
+    requires defs { R.defs rules.old ≡ type_defs items.now }
+    requires above { R.above rules.old ≡ [] }
+    ensures { IfOk result (λ found. found ≡ fault items.now known.now.ports.now) }
+{
+    let mut frame = closed_frame(alloc);
+    let mut seen = nothing_seen(alloc);
+    let mut inside = false;
+    'each: for (i, item) in items.iter().enumerate() {
+        let notes = arrive(alloc, known.kinds, &mut frame, &items[i..], item)?;
+        let typed = rules.breaks(alloc, known, &frame.function.table, item)?;
+        let rule = rule_of(alloc, known, &frame, &seen, &notes, &typed, item)?;
+        if let Some(rule) = rule {
+            return Ok(Some(Fault { item: i, rule }));
+        }
+        inside = opens(inside, item);
+        leave(alloc, &mut frame, inside, item);
+        note(alloc, &mut seen, item)?;
+    }
+    Ok(None)
+}
