@@ -31,7 +31,8 @@ number_within most text = positive most (decimal_of text)
 abbrev pub word_of_decimal : ℕ → Option Decimal → Option ℕ
 word_of_decimal size None = None
 word_of_decimal size (Some d) =
-    if d.negative then (if nat_le d.magnitude (size / 2) then Some ((size - d.magnitude) % size) else None) else (if nat_lt d.magnitude size then Some d.magnitude else None)
+    if d.negative then (if nat_le d.magnitude (size / 2) then Some ((size - d.magnitude) % size) else None) else
+    (if nat_lt d.magnitude size then Some d.magnitude else None)
 
 abbrev pub word_within : Width → List ℕ → Option ℕ
 word_within w text = word_of_decimal (2 ^ bits_of w) (decimal_of text)

@@ -1,1 +1,3 @@
 pub mod Suite
+pub mod Expected
+pub mod Tests

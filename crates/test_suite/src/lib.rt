@@ -1,6 +1,13 @@
-//! Test suites: named cases with the outcomes that they expect.
+//! Test suites: named cases with the outcomes that they expect, and how a list of them is read.
 #![tactic(auto)]
 
+mod error;
+mod expected;
+mod read;
 mod suite;
+#[cfg(test)]
+mod tests;
 
+pub use error::TestError;
+pub use read::read_tests;
 pub use suite::{Suite, Test};

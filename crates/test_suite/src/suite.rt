@@ -1,3 +1,5 @@
+//! The types of a suite of tests.
+
 use am_base::Outcome;
 use am_lists::{Bytes, Items};
 use code_form::Case;

@@ -12,7 +12,8 @@ returns-clause-more c =
     let b = c.read_byte_record.new.self in
     let r = fields_of c.read_byte_record.new.row in
     elim c.match-read_byte_record.branch [
-      | in-Ok w ↦ rw w.result-is (λ is text rows g. gave_more text a b rows r g (subst (λ v. ReadRecord left_of a b v r) is (w.in-Ok.ensures.reads g.trims g.ready)) (w.in-Ok.ensures.reads_on is))
+      | in-Ok w ↦ rw w.result-is (λ is text rows g. gave_more text a b rows r g
+          (subst (λ v. ReadRecord left_of a b v r) is (w.in-Ok.ensures.reads g.trims g.ready)) (w.in-Ok.ensures.reads_on is))
       | in-Err w ↦ rw w.result-is tt
     ]
 
@@ -22,6 +23,7 @@ returns-clause-all c =
     let b = c.read_byte_record.new.self in
     let r = fields_of c.read_byte_record.new.row in
     elim c.match-read_byte_record.branch [
-      | in-Ok w ↦ rw w.result-is (λ is text rows g. gave_all text a b rows r g (subst (λ v. ReadRecord left_of a b v r) is (w.in-Ok.ensures.reads g.trims g.ready)))
+      | in-Ok w ↦ rw w.result-is (λ is text rows g. gave_all text a b rows r g
+          (subst (λ v. ReadRecord left_of a b v r) is (w.in-Ok.ensures.reads g.trims g.ready)))
       | in-Err w ↦ rw w.result-is tt
     ]

@@ -1,0 +1,4 @@
+pub mod Places
+pub mod Short
+pub mod Reading
+pub mod Tables
