@@ -164,6 +164,14 @@ stays_ended s t n gone others m i ne own =
     let none : page t n j ≡ 0 = ap (λ (x : Option Memory). get_or (or_empty x).pages j 0) gone in
     absurd (omega (arith, none, e, here, some)))
 
+pub stays_forked : (s t : Store) (m n : ℕ) → memory t n ≡ memory s m → ((k : ℕ) → k ≢ n → memory t k ≡ memory s k)
+    → (k i : ℕ) → k ≢ m → k ≢ n → is_own s k i ≡ true → is_own t k i ≡ true
+stays_forked s t m n forked others k i nm nn own =
+    let here : page t k i ≡ page s k i = ap (λ (x : Option Memory). get_or (or_empty x).pages i 0) (others k nn) in
+    stays s t n others k i nn own (λ j e.
+    let there : page t n j ≡ page s m j = ap (λ (x : Option Memory). get_or (or_empty x).pages j 0) forked in
+    nm (sym ((alone_when s k i own).alone m j (sym there ∙ e ∙ here)).0))
+
 pub stays_begun : (s t : Store) (n : ℕ) (bytes : List ℕ) → IsBegun t n bytes → ((k : ℕ) → k ≢ n → memory t k ≡ memory s k)
     → (m i : ℕ) → m ≢ n → is_own s m i ≡ true → is_own t m i ≡ true
 stays_begun s t n bytes begun others m i ne own =

@@ -30,9 +30,6 @@ pub record IsBegun (s : Store) (m : ℕ) (opening : List ℕ) : Type 0 where
   pub zero : (i : ℕ) → i < memory_pages → is_full opening i ≡ false → page s m i ≡ 0
   pub own : (i : ℕ) → i < memory_pages → is_full opening i ≡ true → is_own s m i ≡ true
 
-abbrev pub IsBetween : ℕ → ℕ → ℕ → Type 0
-IsBetween least n most = (least ≤ n) × (n ≤ most)
-
 -- On the way there.
 
 -- the first bytes of a list, and zeros

@@ -25,8 +25,12 @@ pub fn equal_memories_share()
     ensures { (s : Store) (m n i : ℕ) → m ≢ n → memory s m ≡ memory s n → is_own s m i ≡ false }
 {}
 
-/// A law: a memory that stays keeps its own pages where another one begins or ends.
+/// A law: a memory that stays keeps its own pages where another one begins or ends, and where one
+/// is forked that is another than it.
 pub fn own_pages_stay()
+    ensures forked { (s t : Store) (m n : ℕ) → memory s n ≡ None → memory t n ≡ memory s m
+        → ((k : ℕ) → k ≢ n → memory t k ≡ memory s k)
+        → (k i : ℕ) → k ≢ m → k ≢ n → is_own s k i ≡ true → is_own t k i ≡ true }
     ensures begun { (s t : Store) (n : ℕ) (bytes : List ℕ) → memory s n ≡ None → IsBegun t n bytes
         → ((k : ℕ) → k ≢ n → memory t k ≡ memory s k)
         → (m i : ℕ) → m ≢ n → is_own s m i ≡ true → is_own t m i ≡ true }

@@ -1,7 +1,7 @@
 //! The store of memories and pages.
 ghost use Rattle.std.specs.Prelude.{max, take, drop, ◌%◌, ◌≡◌, ◌≢◌, ℕ, ◌+◌, ◌/◌, ◌<◌, ◌≤◌, true, None, length, slice_index, IfOk, OnOk, OnErr, Some};
 ghost use Rattle.std.specs.List.{All};
-ghost use Rattle.shared_pages.specs.Opening.{IsBegun, IsBetween, are_zero, full_count, zero_memory};
+ghost use Rattle.shared_pages.specs.Opening.{IsBegun, are_zero, full_count, zero_memory};
 ghost use Rattle.shared_pages.specs.Size.{memory_pages};
 ghost use Rattle.shared_pages.specs.Store.{memory, the_memory, IsIn, owns, own_count, used_pages, written, IsMadeOwn, IsReserved};
 
@@ -152,8 +152,17 @@ impl PageStore {
         Ok(MemId { number })
     }
 
+    /// Sets the greatest number of used pages so far.
+    fn set_peak(&mut self, peak: u64)
+        requires { used_pages self.old ≤ peak }
+        ensures same { (k : ℕ) → memory self.new k ≡ memory self.old k }
+        ensures peak { self.new.peak ≡ peak }
+    {
+        self.peak = peak;
+    }
+
     /// Adds a memory with these bytes. It takes one page for each page of them that has a byte
-    /// other than 0. After a refusal every memory is as it was, and so is `used`.
+    /// other than 0. After a refusal every memory is as it was, and so are `used` and `peak`.
     pub fn begin(&mut self, _alloc: Global, bytes: &[u8]) -> Result<MemId, OutOfMemory>
         requires { length bytes.now ≡ MEMORY_BYTES }
         ensures fresh { IfOk result (λ n. memory self.old n ≡ None) }
@@ -163,14 +172,15 @@ impl PageStore {
         ensures peak { OnOk result (self.new.peak ≡ max self.old.peak (used_pages self.new)) }
         ensures err { OnErr result ((k : ℕ) → memory self.new k ≡ memory self.old k) }
         ensures err_used { OnErr result (used_pages self.new ≡ used_pages self.old) }
-        ensures err_peak { OnErr result (IsBetween self.old.peak self.new.peak
-            (max self.old.peak (used_pages self.old + full_count bytes.now))) }
+        ensures err_peak { OnErr result (self.new.peak ≡ self.old.peak) }
     {
+        let peak = self.peak();
         let id = self.begin_empty()?;
         match open(self, &id, bytes) {
             Ok(()) => Ok(id),
             Err(refused) => {
                 self.release(id);
+                self.set_peak(peak);
                 Err(refused)
             }
         }

@@ -15,8 +15,17 @@ returns-in-Ok-clause-used c =
     let empty = c.begin_empty.ensures.used in
     omega (arith, opened, empty)
 
+pub set_peak-requires : goal.set_peak-requires
+set_peak-requires c =
+    let same = used_determined c.release.new.self c.args.self.now (λ k. elim (cases_eq k c.in_ok-id.id) [
+      | inl e ↦ ap (memory c.release.new.self) e ∙ c.release.ensures.gone ∙ sym c.in_ok-id.ensures.fresh ∙ sym (ap (memory c.args.self.now) e)
+      | inr ne ↦ c.release.ensures.others k ne ∙ c.in-Err.ensures.err.others k ne ∙ c.in_ok-id.ensures.others k ne
+    ]) in
+    let most = c.peak-peak.ensures.most in
+    omega (arith, same, most)
+
 pub returns-in-Err-clause-err_used : goal.returns-in-Err-clause-err_used
-returns-in-Err-clause-err_used c = used_determined c.release.new.self c.args.self.now (λ k. elim (cases_eq k c.in_ok-id.id) [
+returns-in-Err-clause-err_used c = used_determined c.set_peak.new.self c.args.self.now (λ k. c.set_peak.ensures.same k ∙ elim (cases_eq k c.in_ok-id.id) [
   | inl e ↦ ap (memory c.release.new.self) e ∙ c.release.ensures.gone ∙ sym c.in_ok-id.ensures.fresh ∙ sym (ap (memory c.args.self.now) e)
   | inr ne ↦ c.release.ensures.others k ne ∙ c.in-Err.ensures.err.others k ne ∙ c.in_ok-id.ensures.others k ne
 ])
