@@ -15,11 +15,11 @@ use Rattle.ir_operand_rules.specs.Each.{setting_in, kinds_alone, own_breaks, ind
 use Rattle.ir_operand_rules.proofs.Any.{nor, moved, any-or, any-flat_map, any-none}
 
 module _ (kind : Kinds) (entities : List (Name × Entity)) (locals : List (Name × Local)) where
-  abbrev split : OperandRule → List Typed → Bool
+  abbrev pub split : OperandRule → List Typed → Bool
   split rule vs = list_any (own_breaks (setting_in kind entities locals) rule) vs
       || list_any (index_breaks kind rule) (flat_map (λ (v : Typed). indices_of v.1) vs)
 
-  each-split : (rule : OperandRule) (vs : List Typed) → list_any (operand_breaks (setting_in kind entities locals) rule) vs ≡ split rule vs
+  pub each-split : (rule : OperandRule) (vs : List Typed) → list_any (operand_breaks (setting_in kind entities locals) rule) vs ≡ split rule vs
   each-split rule vs =
       any-or (own_breaks (setting_in kind entities locals) rule) (λ (v : Typed). list_any (index_breaks kind rule) (indices_of v.1)) vs
       ∙ ap (λ b. list_any (own_breaks (setting_in kind entities locals) rule) vs

@@ -7,5 +7,5 @@ mod operand;
 mod rules;
 mod taken;
 
-pub use operand::Tables;
+pub use operand::{OperandRule, Tables, operand_breaks_rule};
 pub use rules::{literal_range, type_differs, unknown_name};

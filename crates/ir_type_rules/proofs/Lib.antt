@@ -1,2 +1,4 @@
+pub mod Globals
 pub mod Inits
 pub mod Loops
+pub mod Walks

@@ -3,6 +3,8 @@ use Rattle.std.proofs.Common.{Bor, map, ◌≡◌, ℕ, ◌+◌, ◌<◌, Bool, 
 use Rattle.std.specs.List.{list_any}
 use Rattle.std.proofs.lemmas.List.{take_more}
 use Rattle.ir_tree.specs.declared.type_text.TyText.{TyText}
+use Rattle.ir_tree.specs.declared.operand.Opd.{Opd}
+use Rattle.ir_rules.specs.Parts.{Typed}
 
 or_assoc : (a b c : Bool) → ((a || b) || c) ≡ (a || (b || c))
 or_assoc true b c = refl
@@ -29,3 +31,12 @@ any-now p bs ts e = by bs ∙ ap (list_any p) e
     by : (bs : List (Bor TyText)) → list_any (λ b. p b.now) bs ≡ list_any p (map (λ b. b.now) bs)
     by [] = refl
     by (b ∷ bs) = ap (λ r. p b.now || r) (by bs)
+
+-- a test of operands that are lent
+pub any-typed : (p : Typed → Bool) (bs : List (Bor TyText × Bor Opd)) (ops : List Typed) → map {B = Typed} (λ v. (v.0.now, v.1.now)) bs ≡ ops
+    → list_any (λ v. p (v.0.now, v.1.now)) bs ≡ list_any p ops
+any-typed p bs ops e = by bs ∙ ap (list_any p) e
+  where
+    by : (bs : List (Bor TyText × Bor Opd)) → list_any (λ v. p (v.0.now, v.1.now)) bs ≡ list_any p (map {B = Typed} (λ v. (v.0.now, v.1.now)) bs)
+    by [] = refl
+    by (b ∷ bs) = ap (λ r. p (b.0.now, b.1.now) || r) (by bs)

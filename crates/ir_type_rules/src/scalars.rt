@@ -109,7 +109,8 @@ fn op_all_scalars<'a>(alloc: Global, op: &'a Op) -> Result<Items<&'a TyText>, Ou
     Ok(list)
 }
 
-fn index_scalars<'a>(alloc: Global, item: &'a Item) -> Result<Items<&'a TyText>, OutOfMemory>
+/// Returns the types of the constant indices of an item.
+pub fn index_scalars<'a>(alloc: Global, item: &'a Item) -> Result<Items<&'a TyText>, OutOfMemory>
     ensures { IfOk result (λ list. map (λ t. t.now) list ≡ map (λ i. i.0) (constant_indices item.now)) }
 {
     let operands = operands_of(alloc, item)?;
