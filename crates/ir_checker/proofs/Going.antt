@@ -21,7 +21,7 @@ use Rattle.ir_call_rules.specs.Sources.{bucket, sources_once}
 use Rattle.ir_pass.specs.declared.frame.Frame.{Frame}
 use Rattle.ir_pass.specs.declared.seen.Seen.{Seen}
 use Rattle.ir_pass.specs.Heads as heads
-use Rattle.ir_pass.specs.Frames.{Holds, with_step, left}
+use Rattle.ir_pass.specs.Frames.{Holds, left}
 use Rattle.ir_pass.specs.Seen.{seen_of}
 use Rattle.ir_pass.proofs.Heads.{Stands, entered, passed}
 use Rattle.ir_pass.proofs.SoFar.{counted}
@@ -79,10 +79,9 @@ module _ (items : List Item) (signs : List PortSign) (kind : Kinds) (es : List (
     notes = arrived.notes ∙ ap (λ b. notes_of b x) before-is;
   }
 
-  pub told : (defs : TypeDefs) (above : List Item) → defs ≡ type_defs items → above ≡ take i items → IsJudgedBy own defs above kind es new.function.table
-  told defs above d a = record {
+  pub told : (defs : TypeDefs) → defs ≡ type_defs items → IsJudgedBy own defs kind es new.function.table
+  told defs d = record {
     types = d;
-    above = a;
     kinds = same;
     entities = entities-are;
     locals = ap (λ (c : Scope). c.table) function-is;

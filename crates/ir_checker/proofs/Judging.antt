@@ -1,5 +1,5 @@
 -- What the pass knows of an item tells the least rule that it breaks.
-use Rattle.std.proofs.Common.{◌≡◌, ℕ, Bool, true, false, not, ◌||◌, List, [], ◌∷◌, length, Option, Some, None, refl, sym, ap, ◌∙◌}
+use Rattle.std.proofs.Common.{◌≡◌, Bool, true, false, not, ◌||◌, List, [], ◌∷◌, length, find, Option, Some, None, refl, sym, ap, ◌∙◌}
 use Rattle.std.specs.List.{list_any}
 use Rattle.code_form.specs.declared.sign.PortSign.{PortSign}
 use Rattle.ir_tree.specs.declared.name.Name.{Name}
@@ -7,7 +7,7 @@ use Rattle.ir_tree.specs.declared.operand.Opd.{Opd}
 use Rattle.ir_tree.specs.declared.operand.Opd.TheVariants as opd
 use Rattle.ir_tree.specs.declared.item.Item.{Item}
 use Rattle.ir_tree.specs.declared.item.Item.TheVariants as item
-use Rattle.ir_names.specs.Names.{defined, firsts}
+use Rattle.ir_names.specs.Names.{firsts}
 use Rattle.ir_names.proofs.Defined.{defined-firsts}
 use Rattle.ir_rules.specs.declared.entity.Entity.{Entity}
 use Rattle.ir_rules.specs.declared.local.Local.{Local}
@@ -16,16 +16,15 @@ use Rattle.ir_rules.specs.declared.rule.Rule.TheVariants as rule
 use Rattle.ir_rules.specs.declared.scope.Scope.{Scope}
 use Rattle.ir_rules.specs.Types.{Kinds}
 use Rattle.ir_rules.specs.Parts.{Typed, op_operands}
-use Rattle.ir_rules.specs.Scopes.{with_item}
 use Rattle.ir_rules.specs.Settings.{Setting}
-use Rattle.ir_rules.specs.Operands.{unknown_name, type_differs, literal_range, names_nothing, is_variable}
+use Rattle.ir_rules.specs.Operands.{unknown_type, recursive_type, type_too_large, unknown_name, type_differs, literal_range, names_nothing, is_variable}
 use Rattle.ir_rules.specs.Blocks.{unknown_label, phi_place, phi_entries, block_open, entry_target, own_block}
 use Rattle.ir_rules.specs.Calls.{unknown_callee, call_differs, return_differs, declare_differs}
 use Rattle.ir_rules.specs.Paths.{switch_case, result_misplaced, cast_width}
 use Rattle.ir_rules.specs.Limits.{limit, is_instruction}
-use Rattle.ir_rules.specs.Rules.{outer_double, double_name, number_order, least_rule}
+use Rattle.ir_rules.specs.Rules.{outer_double, double_name, number_order, breaks_in, least_rule}
 use Rattle.ir_rules.proofs.Passing.{again-exact, low-exact}
-use Rattle.ir_block_rules.specs.Alone.{locals_alone, scope_alone, kinds_alone, result_alone}
+use Rattle.ir_block_rules.specs.Alone.{locals_alone, kinds_alone, result_alone}
 use Rattle.ir_operand_rules.specs.Each.{setting_in}
 use Rattle.ir_call_rules.specs.Alone.{calls_alone}
 use Rattle.ir_call_rules.specs.Sources.{bucket, phi_differs}
@@ -37,7 +36,7 @@ use Rattle.ir_pass.proofs.SoFar.{double-seen, limit-seen}
 use Rattle.ir_checker.specs.declared.broken.Notes.{Notes}
 use Rattle.ir_checker.specs.declared.broken.TypeBreaks.{TypeBreaks}
 use Rattle.ir_checker.specs.Judged.{pick, either, name_rules, names_unknown, types_differ, numbers_out, operand_rules, block_rules, call_rules, last_rules}
-use Rattle.ir_checker.specs.Judged.{Fits, is_global, AreOf}
+use Rattle.ir_checker.specs.Judged.{Fits, is_global, has_large, AreOf}
 
 -- ---- operands
 
@@ -75,6 +74,26 @@ module _ (s : Setting) (kind : Kinds) (entities : List (Name × Entity)) (locals
   numbers-fit (item.Head n t ps) h = h refl
   numbers-fit (item.Label n) h = h refl
   numbers-fit item.End h = h refl
+
+-- ---- the rules behind each of the first ones
+
+abbrev from_scalars : List Rule
+from_scalars =
+    rule.ScalarWanted ∷ rule.UnknownName ∷ rule.TypeDiffers ∷ rule.LiteralRange ∷ rule.UnknownLabel ∷ rule.PhiPlace ∷ rule.PhiEntries ∷ rule.BlockOpen
+    ∷ rule.UnknownCallee ∷ rule.CallDiffers ∷ rule.ReturnDiffers ∷ rule.SwitchCase ∷ rule.GetPath ∷ rule.ResultName ∷ rule.InitDiffers ∷ rule.EntryTarget
+    ∷ rule.CastWidth ∷ rule.DeclareDiffers ∷ rule.Limit ∷ []
+
+abbrev from_large : List Rule
+from_large = rule.TypeTooLarge ∷ from_scalars
+
+abbrev from_recursive : List Rule
+from_recursive = rule.RecursiveType ∷ from_large
+
+abbrev from_unknown : List Rule
+from_unknown = rule.UnknownType ∷ from_recursive
+
+abbrev from_numbers : List Rule
+from_numbers = rule.NumberOrder ∷ from_unknown
 
 -- ---- each rule
 
@@ -137,20 +156,57 @@ module _ (s : Setting) (x : Item) (kind : Kinds) (entities : List (Name × Entit
   declare-is : declare_differs (calls_alone kind [] signs) x ≡ declare_differs s x
   declare-is = λ i. declare_differs (calls_alone (fits.kinds i) [] (fits.signs i)) x
 
-  limit-is : limit_in seen notes.registers (length f.before.types) t.full x ≡ limit s x
-  limit-is =
+  limit-is : type_too_large s x ≡ false → limit_in seen notes.registers (length f.before.types) t.full x ≡ limit s x
+  limit-is small =
       ap (λ z. limit_in z notes.registers (length f.before.types) t.full x) fits.seen
       ∙ ap (λ (n : Notes). limit_in (seen_of s.above) n.registers (length f.before.types) t.full x) fits.notes
       ∙ ap (λ (c : Scope). limit_in (seen_of s.above) (length s.before.types) (length c.types) t.full x) fits.after
-      ∙ limit-seen s x t.full (λ n c ty g same. are.full (ap is_global same))
+      ∙ limit-seen s x t.full (λ n c ty g same. are.full (ap is_global same) small)
 
-  pub judged : name_rules f seen t x (operand_rules kind entities f.function.table t x (block_rules f notes x (call_rules kind entities signs f x (last_rules kind signs f seen notes t x))))
-      ≡ least_rule s x
-  judged = λ i.
-      pick (double-is i) rule.DoubleName (pick (order-is i) rule.NumberOrder (pick (are.unknown_type i) rule.UnknownType (pick (are.recursive_type i) rule.RecursiveType
-      (pick (are.type_too_large i) rule.TypeTooLarge (pick (are.scalar_wanted i) rule.ScalarWanted
+  abbrev rest : Option Rule
+  rest =
+      pick t.scalar_wanted rule.ScalarWanted
+      (operand_rules kind entities f.function.table t x (block_rules f notes x (call_rules kind entities signs f x (last_rules kind signs f seen notes t x))))
+
+  rest-is : type_too_large s x ≡ false → rest ≡ find (breaks_in s x) from_scalars
+  rest-is small = λ i.
+      pick (are.scalar_wanted i) rule.ScalarWanted
       (pick (names-is i) rule.UnknownName (pick (types-is i) rule.TypeDiffers (pick (numbers-is i) rule.LiteralRange
       (pick (label-is i) rule.UnknownLabel (pick (place-is i) rule.PhiPlace (pick (entries-is i) rule.PhiEntries (pick (unended-is i) rule.BlockOpen
       (pick (callee-is i) rule.UnknownCallee (pick (call-is i) rule.CallDiffers (pick (result-is i) rule.ReturnDiffers (pick (case-is i) rule.SwitchCase
       (pick (are.get_path i) rule.GetPath (pick (result_misplaced x) rule.ResultName (pick (are.init_differs i) rule.InitDiffers
-      (pick (target-is i) rule.EntryTarget (pick (width-is i) rule.CastWidth (pick (declare-is i) rule.DeclareDiffers (pick (limit-is i) rule.Limit None)))))))))))))))))))))))
+      (pick (target-is i) rule.EntryTarget (pick (width-is i) rule.CastWidth (pick (declare-is i) rule.DeclareDiffers
+      (pick (limit-is small i) rule.Limit None))))))))))))))))))
+
+  -- where a type is too large, no later rule is asked
+  large-is : pick t.type_too_large rule.TypeTooLarge rest ≡ pick (type_too_large s x) rule.TypeTooLarge (find (breaks_in s x) from_scalars)
+  large-is = ap (λ b. pick b rule.TypeTooLarge rest) are.type_too_large ∙ by (type_too_large s x) rest-is
+    where
+      by : (b : Bool) → (b ≡ false → rest ≡ find (breaks_in s x) from_scalars)
+          → pick b rule.TypeTooLarge rest ≡ pick b rule.TypeTooLarge (find (breaks_in s x) from_scalars)
+      by true h = refl
+      by false h = h refl
+
+  pub judged : name_rules f seen t x (operand_rules kind entities f.function.table t x (block_rules f notes x (call_rules kind entities signs f x (last_rules kind signs f seen notes t x))))
+      ≡ least_rule s x
+  judged = λ i.
+      pick (double-is i) rule.DoubleName (pick (order-is i) rule.NumberOrder (pick (are.unknown_type i) rule.UnknownType
+      (pick (are.recursive_type i) rule.RecursiveType (large-is i))))
+
+-- ---- an item that breaks no rule
+
+unpicked : (broken : Bool) (r : Rule) (later : Option Rule) → None ≡ pick broken r later → (broken ≡ false) × (None ≡ later)
+unpicked true r later h = absurd (none-some r h)
+  where
+    none-some : (r : Rule) → ◌≡◌ {A = Option Rule} None (Some r) → ⊥
+    none-some r e = cc
+unpicked false r later h = (refl, h)
+
+-- no type that is written in it is too large
+pub none-large : (s : Setting) (x : Item) → None ≡ least_rule s x → has_large s.types x ≡ false
+none-large s x h =
+    let names = unpicked (double_name s x) rule.DoubleName (find (breaks_in s x) from_numbers) h in
+    let numbers = unpicked (number_order s x) rule.NumberOrder (find (breaks_in s x) from_unknown) names.1 in
+    let unknown = unpicked (unknown_type s x) rule.UnknownType (find (breaks_in s x) from_recursive) numbers.1 in
+    let recursive = unpicked (recursive_type s x) rule.RecursiveType (find (breaks_in s x) from_large) unknown.1 in
+    (unpicked (type_too_large s x) rule.TypeTooLarge (find (breaks_in s x) from_scalars) recursive.1).0

@@ -1,5 +1,6 @@
 -- The rules of an item in their order, by what the pass knows of it.
 use Rattle.std.specs.Prelude.{◌≡◌, ℕ, Bool, true, false, ◌||◌, List, [], length, Option, Some, None, if◌then◌else◌}
+use Rattle.std.specs.List.{list_any}
 use Rattle.code_form.specs.declared.sign.PortSign.{PortSign}
 use Rattle.ir_tree.specs.declared.name.Name.{Name}
 use Rattle.ir_tree.specs.declared.item.Item.{Item}
@@ -10,7 +11,8 @@ use Rattle.ir_rules.specs.declared.local.Local.{Local}
 use Rattle.ir_rules.specs.declared.rule.Rule.{Rule}
 use Rattle.ir_rules.specs.declared.rule.Rule.TheVariants as rule
 use Rattle.ir_rules.specs.declared.scope.Scope.{Scope}
-use Rattle.ir_rules.specs.Types.{Kinds}
+use Rattle.ir_rules.specs.Types.{Kinds, TypeDefs, is_large}
+use Rattle.ir_rules.specs.Parts.{types_of}
 use Rattle.ir_rules.specs.Scopes.{with_item}
 use Rattle.ir_rules.specs.Settings.{Setting, last_block}
 use Rattle.ir_rules.specs.Operands.{unknown_type, recursive_type, type_too_large, scalar_wanted, unknown_name, type_differs, literal_range}
@@ -114,6 +116,10 @@ abbrev pub is_global : Item → Bool
 is_global (item.Global n c t i) = true
 is_global _ = false
 
+-- a type that is written in the item, or one inside it, is larger than the greatest size
+abbrev pub has_large : TypeDefs → Item → Bool
+has_large defs x = list_any (is_large defs) (types_of x)
+
 -- what the rules on types say of the item
 pub record AreOf (s : Setting) (x : Item) (t : TypeBreaks) : Type 0 where
   pub unknown_type : t.unknown_type ≡ unknown_type s x
@@ -125,4 +131,5 @@ pub record AreOf (s : Setting) (x : Item) (t : TypeBreaks) : Type 0 where
   pub unknown_name : is_instruction x ≡ false → t.unknown_name ≡ unknown_name s x
   pub type_differs : is_instruction x ≡ false → t.type_differs ≡ type_differs s x
   pub literal_range : is_instruction x ≡ false → t.literal_range ≡ literal_range s x
-  pub full : is_global x ≡ true → t.full ≡ limit s x
+  -- a type that is too large breaks an earlier rule
+  pub full : is_global x ≡ true → has_large s.types x ≡ false → t.full ≡ limit s x

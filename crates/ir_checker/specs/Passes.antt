@@ -1,5 +1,5 @@
 -- The pass over the items of a module.
-use Rattle.std.specs.Prelude.{◌≡◌, ℕ, Bool, ◌||◌, ◌&&◌, not, List, take}
+use Rattle.std.specs.Prelude.{◌≡◌, Bool, List}
 use Rattle.ir_tree.specs.declared.name.Name.{Name}
 use Rattle.ir_tree.specs.declared.item.Item.{Item}
 use Rattle.ir_names.specs.Names.{firsts}
@@ -20,10 +20,9 @@ opened inside x = heads.opened inside x
 abbrev pub AreKindsOf : Kinds → TypeDefs → Type 0
 AreKindsOf kind defs = ◌≡◌ {A = Kinds} kind (kind_of defs)
 
--- a setting is told by the type definitions, the items before, and what names stand for
-pub record IsJudgedBy (s : Setting) (defs : TypeDefs) (before : List Item) (kind : Kinds) (es : List (Name × Entity)) (table : List (Name × Local)) : Type 0 where
+-- a setting is told by the items before, the type definitions, and what names stand for
+pub record IsJudgedBy (s : Setting) (defs : TypeDefs) (kind : Kinds) (es : List (Name × Entity)) (table : List (Name × Local)) : Type 0 where
   pub types : defs ≡ s.types
-  pub above : before ≡ s.above
   pub kinds : ◌≡◌ {A = Kinds} kind s.kind
   pub entities : es ≡ firsts s.entities
   pub locals : table ≡ s.function.table

@@ -1,12 +1,12 @@
 //! The pass over the items of a module that finds its first fault.
-ghost use Rattle.std.specs.Prelude.{◌≡◌, ◌++◌, ◌∷◌, [], IfOk, OnOk};
+ghost use Rattle.std.specs.Prelude.{◌≡◌, ◌++◌, ◌∷◌, [], false, List, IfOk, OnOk};
 ghost use Rattle.ir_names.specs.Names.{firsts};
 ghost use Rattle.ir_rules.specs.Entities as spec;
 ghost use Rattle.ir_rules.specs.Rules.{fault};
 ghost use Rattle.ir_rules.specs.Settings.{Setting};
 ghost use Rattle.ir_rules.specs.Types.{type_defs};
 ghost use Rattle.ir_scopes.specs.Kinds.{kind_in};
-ghost use Rattle.ir_checker.specs.Judged.{AreOf};
+ghost use Rattle.ir_checker.specs.Judged.{AreOf, has_large};
 ghost use Rattle.ir_checker.specs.Passes.{AreKindsOf, Arrived, IsJudgedBy, opened};
 
 use crate::broken::{Known, Notes, TypeBreaks, notes_of};
@@ -27,8 +27,9 @@ pub trait TypeRules {
 
     /// The type definitions of the module.
     ghost defs: { Self → TypeDefs };
-    /// The items that are judged.
-    ghost above: { Self → List Item };
+    /// Whether these items are judged. No type that is written in them is larger than
+    /// `MAX_TYPE_BYTES`.
+    ghost has_judged: { Self → List Item → Type 0 };
 
     /// Judges the next item.
     fn breaks(
@@ -39,9 +40,10 @@ pub trait TypeRules {
         item: &Item,
     ) -> Result<TypeBreaks, OutOfMemory>
         ensures defs { defs self.new ≡ defs self.old }
-        ensures above { OnOk result (above self.new ≡ above self.old ++ item.now ∷ []) }
-        ensures broken { IfOk result (λ typed. (s : Setting)
-            → IsJudgedBy s (defs self.old) (above self.old) (kind_in known.now.kinds.now.names)
+        ensures judged { OnOk result ((above : List Item) → has_large (defs self.old) item.now ≡ false
+            → has_judged self.old above → has_judged self.new (above ++ item.now ∷ [])) }
+        ensures broken { IfOk result (λ typed. (s : Setting) → has_judged self.old s.above
+            → IsJudgedBy s (defs self.old) (kind_in known.now.kinds.now.names)
             known.now.entities.now locals.now
             → AreOf s item.now typed) };
 }
@@ -84,7 +86,7 @@ pub fn first_fault<R: TypeRules>(
     requires entities { known.now.entities.now
         ≡ firsts (spec.entities_of (kind_in known.now.kinds.now.names) items.now) }
     requires defs { R.defs rules.old ≡ type_defs items.now }
-    requires above { R.above rules.old ≡ [] }
+    requires judged { R.has_judged rules.old [] }
     ensures { IfOk result (λ found. found ≡ fault items.now known.now.ports.now) }
 {
     let mut frame = closed_frame(alloc);

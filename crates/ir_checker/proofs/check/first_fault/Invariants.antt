@@ -11,6 +11,6 @@ invariant-each g l = record {
   stands : Stands (kind_in l.known.kinds.now.names) l.items l.i l.inside l.frame;
   seen : l.seen ≡ seen_of (take l.i l.items);
   defs : g.R.TypeRules.defs l.rules ≡ type_defs l.items;
-  above : g.R.TypeRules.above l.rules ≡ take l.i l.items;
+  judged : g.R.TypeRules.has_judged l.rules (take l.i l.items);
   rest : fault_from l.items l.known.ports.now l.i (drop l.i l.items) ≡ fault l.items l.known.ports.now;
 }
