@@ -1,0 +1,4 @@
+pub mod Alone
+pub mod Paths
+pub mod Words
+pub mod Settings
