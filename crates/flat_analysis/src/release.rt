@@ -1,0 +1,68 @@
+//! The states of the classes taken back.
+ghost use Rattle.std.specs.Prelude.{◌≡◌, ◌++◌, map, nat_eq, IfOk};
+ghost use Rattle.std.specs.List.{All, IsDistinct};
+ghost use Rattle.std.specs.List.Sorted.{IsPermutation};
+ghost use Rattle.traces.specs.Counts.{SameCounts};
+ghost use Rattle.traces.specs.View.{Keeps};
+ghost use Rattle.exec_core.specs.Analysed.{class_numbers};
+ghost use Rattle.machine_form.specs.Machine.{outcome_at};
+
+use crate::ended::{Ended, ended_classes};
+use am_base::OutOfMemory;
+use am_lists::Items;
+use exec_core::{Class, Machine};
+use flat_machine::{FlatOver, FlatState, Ports};
+use std::alloc::Global;
+
+/// Releases the states of the classes.
+pub fn release_all<M: Machine>(machine: &mut M, classes: Items<Class<M::State>>)
+    requires out { All (λ c. M.view.is_out machine.old c.state) classes }
+    requires distinct { IsDistinct nat_eq (class_numbers M.view classes) }
+    ensures out_numbers { IsPermutation (M.view.out_numbers machine.old)
+        (class_numbers M.view classes ++ M.view.out_numbers machine.new) }
+    ensures counts { SameCounts (M.view.counts machine.old) (M.view.counts machine.new) }
+    ensures keeps { Keeps M.view machine.old machine.new (class_numbers M.view classes) }
+{
+    let mut rest = classes.into_vec();
+    while let Some(class) = rest.pop() {
+        let Class {
+            state,
+            members: _,
+            length: _,
+        } = class;
+        machine.release(state);
+    }
+    rest.destroy_empty();
+}
+
+/// What the mutants of each class show, and their numbers. The states of the classes are released,
+/// whatever it answers.
+pub fn give_out<'a, P: Ports>(
+    alloc: Global,
+    machine: &mut FlatOver<'a, P>,
+    classes: Items<Class<FlatState>>,
+) -> Result<Items<Ended>, OutOfMemory>
+    requires out { All (λ c. ⟦<FlatOver<'a, P> as Machine>⟧.view.is_out machine.old c.state) classes }
+    requires distinct { IsDistinct nat_eq (class_numbers ⟦<FlatOver<'a, P> as Machine>⟧.view classes) }
+    ensures ended { IfOk result (λ ended. ended ≡ map (λ c. record {
+      outcome = outcome_at (⟦<FlatOver<'a, P> as Machine>⟧.view.stands machine.old c.state);
+      members = c.members;
+      length = c.length;
+    }) classes) }
+    ensures out_numbers { IsPermutation (⟦<FlatOver<'a, P> as Machine>⟧.view.out_numbers machine.old)
+        (class_numbers ⟦<FlatOver<'a, P> as Machine>⟧.view classes ++ ⟦<FlatOver<'a, P> as Machine>⟧.view.out_numbers machine.new) }
+    ensures counts { SameCounts (⟦<FlatOver<'a, P> as Machine>⟧.view.counts machine.old) (⟦<FlatOver<'a, P> as Machine>⟧.view.counts machine.new) }
+    ensures keeps { Keeps ⟦<FlatOver<'a, P> as Machine>⟧.view machine.old machine.new
+        (class_numbers ⟦<FlatOver<'a, P> as Machine>⟧.view classes) }
+{
+    match ended_classes(alloc, machine, classes.as_slice()) {
+        Ok(ended) => {
+            release_all(machine, classes);
+            Ok(ended)
+        }
+        Err(error) => {
+            release_all(machine, classes);
+            Err(error)
+        }
+    }
+}
