@@ -1,9 +1,10 @@
 //! What the tests assert of a text.
+use crate::again::read_back;
 use am_base::MAX_FILE_BYTES;
 use am_lists::Same;
 use ir_lexer::lex;
 use ir_reader::{InstrError, ReadError, read, read_instruction};
-use ir_text::{Item, print, print_instruction};
+use ir_text::{Item, print_instruction};
 use sqlite_items::Boxed;
 use std::alloc::Global;
 use std::process::Abort;
@@ -36,25 +37,17 @@ pub fn expect_unread(rt: &impl Abort, alloc: Global, text: &str, token: u32) -> 
     Ok(())
 }
 
-/// The canonical text of a module.
-fn canonical(rt: &impl Abort, alloc: Global, text: &[u8]) -> Result<Vec<u8>, Fail> {
-    assert!(rt; text.len() <= MAX_FILE_BYTES);
-    let tokens = lex(alloc, text)?;
-    let reading = read(alloc, text, tokens.as_slice())?;
-    Ok(print(alloc, &reading.module)?)
-}
-
-/// Asserts that a module has this canonical text, and that this is its own.
+/// Asserts that a module has this canonical text, and is read from it again.
 pub fn expect_canonical(
     rt: &impl Abort,
     alloc: Global,
     text: &str,
     want: &str,
 ) -> Result<(), Fail> {
-    let printed = canonical(rt, alloc, text.as_bytes())?;
-    assert_eq!(rt; printed.as_slice(), want.as_bytes());
-    let again = canonical(rt, alloc, &printed)?;
-    assert_eq!(rt; again.as_slice(), want.as_bytes());
+    let text = text.as_bytes();
+    assert!(rt; text.len() <= MAX_FILE_BYTES);
+    let found = read_back(alloc, text)?;
+    assert_eq!(rt; found.canonical.as_slice(), want.as_bytes());
     Ok(())
 }
 

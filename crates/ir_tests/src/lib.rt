@@ -1,7 +1,8 @@
-//! The tests of the crates of the text. They have a crate of their own, so that those are proved
-//! without them.
+//! A text is cut into tokens, read, printed and read again (`read_back`), and the tests of the
+//! crates of the text. The tests have a crate of their own, so that those are proved without them.
 #![tactic(auto)]
 
+mod again;
 #[cfg(test)]
 mod expect;
 #[cfg(test)]
@@ -10,3 +11,5 @@ mod instructions;
 mod modules;
 #[cfg(test)]
 mod sizes;
+
+pub use again::{ReadBack, ReadBackError, read_back};
