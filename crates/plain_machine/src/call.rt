@@ -7,7 +7,7 @@ ghost use Rattle.machine_form.specs.Calls.{numbered, enter_change, return_change
 ghost use Rattle.machine_form.specs.Next.{ret_change};
 
 use crate::step::{ends, traps, write};
-use am_base::{Ending, OutOfMemory, Trap};
+use am_base::{Ending, MAX_FRAMES, MAX_LIVE_REGISTERS, OutOfMemory, Trap};
 use change_set::{ByteWrites, Change, Control, RegisterWrites};
 use code_form::{Code, Operand};
 use flat_state::{Flat, function};
@@ -47,12 +47,12 @@ pub fn enter(
     let Some(writes) = argument_writes(alloc, s, args)? else {
         return Ok(traps(alloc, s, Trap::UnsetRegister));
     };
-    // with the running frame 512
-    if s.callers() >= 511 {
+    // the running frame is one more
+    if s.callers() >= MAX_FRAMES as usize - 1 {
         return Ok(traps(alloc, s, Trap::DepthFull));
     }
     let registers = function(code, f).registers;
-    if s.words() + u64::from(registers) > 32768 {
+    if s.words() + u64::from(registers) > u64::from(MAX_LIVE_REGISTERS) {
         return Ok(traps(alloc, s, Trap::RegistersFull));
     }
     Ok(Change {

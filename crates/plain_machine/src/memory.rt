@@ -6,7 +6,7 @@ ghost use Rattle.machine_form.specs.Straight.{number_of, bytes_from, value_of, w
 ghost use Rattle.plain_machine.specs.Operands.{HasMemory, IsSmallAlignment};
 
 use crate::step::{gives, traps, write};
-use am_base::{Cast, OutOfMemory, Trap, Width, convert};
+use am_base::{Cast, FIRST_ADDRESS, MEMORY_BYTES, OutOfMemory, Trap, Width, convert};
 use change_set::{ByteWrites, Change, Control, RegisterWrites};
 use code_form::{Code, Operand};
 use flat_state::Flat;
@@ -38,13 +38,13 @@ fn number(bytes: &[u8]) -> u64
     }
 }
 
-/// Whether all bytes of an access lie from 1,024 to below the stack top.
+/// Whether all bytes of an access lie from `FIRST_ADDRESS` to below the stack top.
 fn is_in_range(s: &Flat, address: u64, len: usize) -> bool
     requires { len ≤ 8 }
     ensures { result ≡ spec.is_in_range s.now.state address len }
 {
     let top = u64::from(s.top());
-    address >= 1024 && address <= top && address + len as u64 <= top
+    address >= u64::from(FIRST_ADDRESS) && address <= top && address + len as u64 <= top
 }
 
 /// The bytes of a number that differ from what stands in memory from an address on.
@@ -56,7 +56,7 @@ fn differing(
     word: u64,
 ) -> Result<ByteWrites, OutOfMemory>
     requires inside { at + len ≤ length bytes.now }
-    requires few { length bytes.now ≤ 1048576 }
+    requires few { length bytes.now ≤ MEMORY_BYTES }
     ensures { IfOk result (λ writes. writes ≡ spec.differing bytes.now at (bytes_from len word)) }
 {
     let mut writes = ByteWrites::new(alloc);
@@ -175,7 +175,8 @@ fn alloca_count(
     let top = u64::from(s.top());
     let address = top + (align - top % align) % align;
     if let Some(bytes) = size.checked_mul(count) {
-        if bytes <= 1_048_576 && address + bytes <= 1_048_576 {
+        let most = u64::from(MEMORY_BYTES);
+        if bytes <= most && address + bytes <= most {
             return Ok(Change {
                 writes: write(alloc, r, address)?,
                 bytes: ByteWrites::new(alloc),

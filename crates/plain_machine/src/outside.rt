@@ -10,7 +10,7 @@ ghost use Rattle.std.specs.Prelude.{slice_get};
 
 use crate::call::enter;
 use crate::step::{ends, gives, traps, write};
-use am_base::{Ending, OutOfMemory, Trap};
+use am_base::{Ending, MAX_OUTPUT_BYTES, OutOfMemory, Trap};
 use change_set::{ByteWrites, Change, Control};
 use code_form::{Callee, Code, Operand};
 use flat_state::Flat;
@@ -23,7 +23,7 @@ fn put_char(alloc: Global, s: &Flat, r: Option<u32>, a: Operand) -> Result<Chang
     let Some(x) = s.value(a) else {
         return Ok(traps(alloc, s, Trap::UnsetRegister));
     };
-    if s.output_len() >= 65536 {
+    if s.output_len() >= MAX_OUTPUT_BYTES as usize {
         return Ok(traps(alloc, s, Trap::OutputFull));
     }
     let word = x % 256;

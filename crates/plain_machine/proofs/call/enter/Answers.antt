@@ -8,12 +8,12 @@ use Rattle.machine_form.specs.Straight.{values_of}
 use Rattle.plain_machine.proofs.EnterSteps.{entry, full, room}
 use Rattle.plain_machine.proofs.call.enter.Goals as goal
 
-pub returns-then-words-from-gt32768 : goal.returns-then-words-from-gt32768
-returns-then-words-from-gt32768 c =
+pub returns-then-words-from : goal.returns-then-words-from
+returns-then-words-from c =
     let few : length c.args.s.now.state.callers < 511 = omega (arith, c.callers.ensures) in
     let registers = ap (λ (f : Func). f.registers) c.function.ensures in
     let more : 32768 < registers_in_use c.args.s.now.state + (function_at c.args.code.now c.args.f).registers = omega (arith, c.from.ensures, c.words.ensures.value, registers) in
-    c.traps-then-words-from-gt32768.ensures
+    c.traps-then-words-from.ensures
     ∙ full c.args.code.now c.args.s.now.state c.args.f c.in-Some.writes (values_of c.args.s.now.state c.args.args.now) (sym c.in-Some.is ∙ c.in_ok-writes.ensures) few more
 
 pub returns : goal.returns
