@@ -11,7 +11,7 @@ use Rattle.am_base.specs.declared.limits.TheConstants.{MAX_TYPE_BYTES}
 use Rattle.type_layout.specs.declared.ty.Ty.{Ty, out-Ty}
 use Rattle.type_layout.specs.declared.ty.Ty.TheVariants as ty
 use Rattle.type_layout.specs.declared.ty.Ty.TheOpen.{Ty-F}
-use Rattle.type_layout.specs.Types.{layout_of, size_of}
+use Rattle.type_layout.specs.Types.{layout_of, size_of, align_of}
 use Rattle.type_table.specs.declared.shape.Shape.{Shape}
 use Rattle.type_table.specs.declared.shape.Shape.TheVariants.{Int, Ptr, Array, Struct}
 use Rattle.type_table.specs.declared.shape.Extent.{Extent}
@@ -21,7 +21,7 @@ use Rattle.ir_rules.specs.Parts.{Typed}
 use Rattle.ir_rules.specs.Paths.{part_of, field_number, field_type}
 use Rattle.ir_rules.specs.Memory.{steps_from, step_of}
 use Rattle.ir_rules.specs.Memory as memory
-use Rattle.ir_op_codes.specs.Paths.{meant, with_step, size_in, offset_in, field_in, part_in, step_in, place_in, rest_of, steps_over, IsSmall, IsRoomy}
+use Rattle.ir_op_codes.specs.Paths.{meant, with_step, size_in, align_in, offset_in, field_in, part_in, step_in, place_in, rest_of, steps_over, IsSmall, IsRoomy}
 use Rattle.ir_op_codes.proofs.Layouts.{element-most, field-most, extent-is}
 
 -- ---- lists
@@ -63,6 +63,12 @@ read (x ∷ xs) (suc k) = read xs k
 extent-at : (ts : List Ty) (n : ℕ) (t : Ty) → slice_get ts n ≡ Some t → (layout_of t).most ≤ MAX_TYPE_BYTES
     → extent_at ts n ≡ Some (record { size = (layout_of t).size; align = (layout_of t).align; offsets = (layout_of t).offsets })
 extent-at ts n t h m = rw h (extent-is (layout_of t) m)
+
+pub room-is : (ts tab : List Ty) (n : ℕ) (t : Ty) (o : Option Extent) → tab ≡ ts → slice_get ts n ≡ Some t → (layout_of t).most ≤ MAX_TYPE_BYTES
+    → o ≡ extent_at tab n → (size_in o ≡ size_of t) × (align_in o ≡ align_of t)
+room-is ts tab n t o same h m e =
+    let all = e ∙ ap (λ (xs : List Ty). extent_at xs n) same ∙ extent-at ts n t h m in
+    (ap size_in all, ap align_in all)
 
 -- ---- steps
 

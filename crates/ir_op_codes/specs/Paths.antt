@@ -37,6 +37,10 @@ abbrev pub size_in : Option Extent → ℕ
 size_in None = 0
 size_in (Some e) = e.size
 
+abbrev pub align_in : Option Extent → ℕ
+align_in None = 0
+align_in (Some e) = e.align
+
 abbrev pub offset_in : Option Extent → Option ℕ → ℕ
 offset_in None k = 0
 offset_in (Some e) k = unwrap_or (slice_get e.offsets (unwrap_or k 0)) 0

@@ -1,11 +1,14 @@
-//! The lists in instructions: the entries of a `phi`, the cases of a `switch`.
-ghost use Rattle.std.specs.Prelude.{◌≡◌, All, map, unwrap_or, IfOk, OnOk};
+//! The lists in instructions: the indices of a path, the entries of a `phi`, the cases of a `switch`.
+ghost use Rattle.std.specs.Prelude.{◌≡◌, ◌++◌, All, map, flat_map, fold, unwrap_or, IfOk, OnOk, []};
+ghost use Rattle.ir_rules.specs.Blocks as blocks;
 ghost use Rattle.ir_rules.specs.Codes as codes;
 ghost use Rattle.ir_rules.specs.Paths as rules;
+ghost use Rattle.ir_op_codes.specs.Paths.{moves, meant};
 ghost use Rattle.ir_op_codes.specs.Words.{IsFit};
 ghost use Rattle.ir_op_codes.specs.Settings.{setting_by};
 
 use crate::names::Names;
+use crate::paths::{Move, Step};
 use crate::reads::typed;
 use crate::words::kind_width;
 use am_base::{OutOfMemory, Width};
@@ -84,4 +87,50 @@ pub fn entries(
         add_entry(&mut entries, &mut known, (names.block(&e.1), a))?;
     }
     Ok(entries)
+}
+
+/// Appends an index that is no number, with its scale and width.
+fn add_index(
+    alloc: Global,
+    types: &mut Types<'_>,
+    names: &Names<'_>,
+    list: &mut Items<(u64, Width, Operand)>,
+    index: &(TyText, Opd),
+    step: Step,
+) -> Result<(), OutOfMemory>
+    requires { IsFit types.old.defs index.now.1 }
+    ensures defs { types.new.defs ≡ types.old.defs }
+    ensures added { let s = setting_by types.old.defs names.now in OnOk result (list.new
+        ≡ list.old ++ codes.index_code s names.now.addresses.now (index.now, meant step)) }
+{
+    if let Step::Scaled(size) = step {
+        match index.1 {
+            Opd::Number(_) => {}
+            _ => {
+                let w = kind_width(types.kind(&index.0));
+                let a = typed(alloc, types, names, &index.0, &index.1)?;
+                list.push((size, w, a))?;
+            }
+        }
+    }
+    Ok(())
+}
+
+/// Returns the indices of a path that are no numbers, each with its scale and width.
+pub fn indices(
+    alloc: Global,
+    types: &mut Types<'_>,
+    names: &Names<'_>,
+    path: &[Move<'_>],
+) -> Result<Items<(u64, Width, Operand)>, OutOfMemory>
+    requires { All (λ m. IsFit types.old.defs m.0.now.1) path.now }
+    ensures defs { types.new.defs ≡ types.old.defs }
+    ensures indices { let s = setting_by types.old.defs names.now in IfOk result (λ is.
+        is ≡ flat_map (codes.index_code s names.now.addresses.now) (moves path.now)) }
+{
+    let mut indices = Items::new(alloc);
+    'each: for m in path {
+        add_index(alloc, types, names, &mut indices, m.0, m.1)?;
+    }
+    Ok(indices)
 }

@@ -7,6 +7,7 @@ ghost use Rattle.ir_room.specs.Ends as spec;
 use am_base::MEMORY_BYTES;
 use type_table::Extent;
 
+/// Returns the address, or the first one behind the memory where it is greater.
 pub fn limited(at: u64) -> u64
     ensures value { result ≡ spec.limited at }
     ensures few { result ≤ MEMORY_BYTES + 1 }

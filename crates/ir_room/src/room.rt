@@ -13,6 +13,7 @@ use std::alloc::Global;
 use type_table::Extent;
 
 /// Where the globals so far end. A further one takes a constant number of steps.
+#[derive(Drop)]
 pub struct Room {
     /// Where the constants end.
     pub constants: u64,

@@ -6,13 +6,21 @@ ghost use Rattle.ir_rules.specs.Types.{type_defs};
 ghost use Rattle.ir_scopes.specs.Kinds.{kind_in};
 ghost use Rattle.ir_room.specs.Rooms.{IsRoomOf};
 ghost use Rattle.ir_checker.specs.Judged.{AreOf, has_large};
+ghost use Rattle.ir_checker.specs.Passes.{IsJudgedBy};
 ghost use Rattle.ir_typed_rules.specs.Walks.{IsTold, WalksAre};
 
 use am_base::OutOfMemory;
-use ir_checker::{Known, TypeBreaks};
+use ir_checker::{Known, TypeBreaks, TypeRules};
+use ir_init_rules::init_differs;
+use ir_names::NameTable;
+use ir_operand_rules::Tables;
 use ir_room::Room;
+use ir_rules::Local;
 use ir_tree::Item;
-use ir_type_rules::{recursive_type, scalar_wanted, type_too_large, unknown_type};
+use ir_type_rules::{
+    get_path, init_literal_range, init_type_differs, init_unknown_name, recursive_type,
+    scalar_wanted, type_too_large, unknown_type,
+};
 use ir_types::Types;
 use std::alloc::Global;
 
@@ -29,7 +37,41 @@ pub struct Walked {
     pub literal_range: bool,
 }
 
+/// Returns what the rules say of an item that follow the paths and initialisers in it. It takes time
+/// about linear in the item.
+fn walked_of(
+    alloc: Global,
+    known: &Known<'_>,
+    locals: &NameTable<Local>,
+    types: &mut Types<'_>,
+    item: &Item,
+) -> Result<Walked, OutOfMemory>
+    ensures defs { types.new.defs ≡ types.old.defs }
+    ensures walks { IfOk result (λ walked. (s : Setting)
+        → IsJudgedBy s types.old.defs (kind_in known.now.kinds.now.names) known.now.entities.now locals.now
+        → WalksAre s item.now walked) }
+{
+    let tables = Tables {
+        kinds: known.kinds,
+        entities: known.entities,
+        locals,
+    };
+    let path = get_path(alloc, types, item)?;
+    let init = init_differs(alloc, types, item)?;
+    let name = init_unknown_name(alloc, &tables, item)?;
+    let differs = init_type_differs(alloc, known.kinds, item)?;
+    let range = init_literal_range(alloc, &tables, item)?;
+    Ok(Walked {
+        get_path: path,
+        init_differs: init,
+        unknown_name: name,
+        type_differs: differs,
+        literal_range: range,
+    })
+}
+
 /// The types of a module, and how much of the memory the globals so far need.
+#[derive(Drop)]
 pub struct TypedRules<'a> {
     pub types: Types<'a>,
     pub room: Room,
@@ -84,5 +126,24 @@ impl<'a> TypedRules<'a> {
             literal_range: walked.literal_range,
             full,
         })
+    }
+}
+
+impl<'a> TypeRules for TypedRules<'a> {
+    ghost use Rattle.ir_room.specs.Rooms.{IsRoomOf};
+
+    ghost defs = { λ r. r.types.defs };
+
+    ghost has_judged = { λ r above. IsRoomOf r.types.defs above r.room };
+
+    fn breaks(
+        &mut self,
+        alloc: Global,
+        known: &Known<'_>,
+        locals: &NameTable<Local>,
+        item: &Item,
+    ) -> Result<TypeBreaks, OutOfMemory> {
+        let walked = walked_of(alloc, known, locals, &mut self.types, item)?;
+        self.judge(alloc, known, &walked, item)
     }
 }

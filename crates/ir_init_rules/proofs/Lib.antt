@@ -1,0 +1,4 @@
+pub mod Lists
+pub mod Structures
+pub mod Parts
+pub mod Elements
