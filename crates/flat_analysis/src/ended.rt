@@ -26,6 +26,15 @@ pub struct Together {
     pub work: Work,
 }
 
+/// What an analysis of a case gives, and for each mutant, from mutant 0 on, the index of its class.
+#[derive(Debug, Drop)]
+pub struct CaseAnalysis {
+    pub classes: Items<Ended>,
+    pub class_of: Items<u32>,
+    pub splits: Items<Split>,
+    pub work: Work,
+}
+
 /// What the mutants of a class show, and their numbers.
 fn ended_class<'a, P: Ports>(
     alloc: Global,

@@ -3,7 +3,12 @@
 
 mod case;
 mod ended;
+mod laws;
+mod numbers;
+mod own;
 mod release;
 
 pub use case::analyse_over;
-pub use ended::{Ended, Together};
+pub use ended::{CaseAnalysis, Ended, Together};
+pub use laws::groups;
+pub use own::analyse_case;

@@ -67,21 +67,50 @@ impl<'a> FlatOver<'a, OwnPorts> {
     {
         let subject = Subject::new(alloc, code, variants)?;
         let all = mem::replace(ports, Vec::new(alloc));
-        Ok(FlatOver {
-            subject,
-            ports: OwnPorts { all },
-            numbers: Numbers::new(alloc),
-            tried: 0,
-            applied: 0,
-            weighed: 0,
-            readied: 0,
-        })
+        Ok(FlatOver::over(alloc, subject, OwnPorts { all }))
     }
 
     /// Gives the ports back in their order, each as it is now.
     pub fn finish(self) -> Vec<Box<dyn Port>>
         requires { ⟦<FlatOver<'a, OwnPorts> as Machine>⟧.view.out_numbers self ≡ [] }
         ensures { result.items ≡ self.entry.ports.all.items }
+    {
+        let OwnPorts { all } = self.into_ports();
+        all
+    }
+}
+
+impl<'a, P: Ports> FlatOver<'a, P> {
+    /// A machine over a code and a table, with these ports. It has no state out and has counted
+    /// nothing. It takes no memory.
+    pub fn over(alloc: Global, subject: Subject<'a>, ports: P) -> FlatOver<'a, P>
+        ensures meanings { ⟦<FlatOver<'a, P> as Machine>⟧.view.meanings result ≡ machine_of subject.entry.code subject.entry.table (answers_in (P.outside ports).answers) }
+        ensures subject { result.subject ≡ subject.entry }
+        ensures ports { result.ports ≡ ports }
+        ensures none_out { ⟦<FlatOver<'a, P> as Machine>⟧.view.out_numbers result ≡ [] }
+        ensures counts { ⟦<FlatOver<'a, P> as Machine>⟧.view.counts result ≡ record {
+          tried = 0;
+          applied = 0;
+          weighed = 0;
+          readied = 0;
+          asks = asked_in (P.outside ports).asked;
+        } }
+    {
+        FlatOver {
+            subject,
+            ports,
+            numbers: Numbers::new(alloc),
+            tried: 0,
+            applied: 0,
+            weighed: 0,
+            readied: 0,
+        }
+    }
+
+    /// Gives the ports back, as they are now.
+    pub fn into_ports(self) -> P
+        requires { ⟦<FlatOver<'a, P> as Machine>⟧.view.out_numbers self ≡ [] }
+        ensures { result ≡ self.entry.ports }
     {
         let FlatOver {
             subject: _,
@@ -92,12 +121,9 @@ impl<'a> FlatOver<'a, OwnPorts> {
             weighed: _,
             readied: _,
         } = self;
-        let OwnPorts { all } = ports;
-        all
+        ports
     }
-}
 
-impl<'a, P: Ports> FlatOver<'a, P> {
     /// Gives out a state that stands for the state in which a run of the case begins. No count
     /// changes. After a refusal, which comes only for want of memory, the states out are those that
     /// were. It costs the registers of the case's function, the opening memory and the input.
