@@ -35,12 +35,12 @@ copy_seen old new bs m k same =
     λ i. record { bytes = bytes i; pages = pages i }
 
 -- a row that was copied from a row of the entries before
-pub copied_row : (old mid new : Names) (m n i : ℕ) → IsExtended old mid → IsCopied mid new m n memory_pages → i < memory_pages
+pub copied_row : (old mid new : Names) (m n i : ℕ) → IsExtended old mid → IsCopied memory_pages mid new m n memory_pages → i < memory_pages
     → get_or new.entries (n * memory_pages + i) 0 ≡ get_or old.entries (m * memory_pages + i) 0
 copied_row old mid new m n i more copied low = copied.copied i low ∙ more.same (m * memory_pages + i)
 
 -- and any other row
-pub other_row : (old mid new : Names) (m n k i : ℕ) → IsExtended old mid → IsCopied mid new m n memory_pages → k ≢ n → i < memory_pages
+pub other_row : (old mid new : Names) (m n k i : ℕ) → IsExtended old mid → IsCopied memory_pages mid new m n memory_pages → k ≢ n → i < memory_pages
     → get_or new.entries (k * memory_pages + i) 0 ≡ get_or old.entries (k * memory_pages + i) 0
 other_row old mid new m n k i more copied ne low = elim (row_apart k n i ne low) [
   | inl a ↦ copied.below (k * memory_pages + i) a ∙ more.same (k * memory_pages + i)
@@ -107,14 +107,15 @@ added_store slots later old new bs p n store taken some few rows limit used same
     }
 
 pub forked_store : (slots later : List ℕ) (old mid new : Names) (bs : List ℕ) (p m n : ℕ) → IsStore slots old bs p → IsTaken slots later n → 0 < n
-    → IsExtended old mid → memory_pages * length later ≤ length mid.entries → IsCopied mid new m n memory_pages → IsStore later new bs p
-forked_store slots later old mid new bs p m n store taken some more rows copied =
+    → IsExtended old mid → memory_pages * length later ≤ length mid.entries → IsCopied memory_pages mid new m n memory_pages
+    → different new.entries ≡ different mid.entries → IsStore later new bs p
+forked_store slots later old mid new bs p m n store taken some more rows copied used =
     let few = more.few in
     let long = copied.long in
     let row : (i : ℕ) → i < memory_pages → get_or new.entries (n * memory_pages + i) 0 ≡ get_or old.entries (m * memory_pages + i) 0 =
     (λ i low. copied_row old mid new m n i more copied low) in
     added_store slots later old new bs p n store taken some (omega (arith, few, long)) (omega (arith, rows, long)) (copied.limit ∙ more.limit)
-    (copied.used ∙ more.used) (λ k i ne low. other_row old mid new m n k i more copied ne low)
+    (used ∙ more.used) (λ k i ne low. other_row old mid new m n k i more copied ne low)
     (λ i j low lower full e. store.apart m i j low lower (λ z. full (row i low ∙ z)) (sym (row i low) ∙ e ∙ row j lower))
 
 pub begun_store : (slots later : List ℕ) (old mid : Names) (bs : List ℕ) (p n : ℕ) → IsStore slots old bs p → IsTaken slots later n → 0 < n

@@ -1,5 +1,5 @@
 -- The pages of all memories, and how many different ones there are.
-use Rattle.std.proofs.Common.{◌≡◌, ℕ, zero, suc, ◌+◌, ◌<◌, ◌≤◌, List, [], ◌∷◌, ◌++◌, Option, None, get_or, arith, ap, sym, ◌∙◌, refl, inl}
+use Rattle.std.proofs.Common.{◌≡◌, ℕ, zero, suc, ◌+◌, ◌<◌, ◌≤◌, List, [], ◌∷◌, ◌++◌, Option, None, length, get_or, arith, ap, sym, ◌∙◌, refl, inl}
 use Rattle.std.proofs.Common.{inr}
 use Rattle.std.specs.Prelude.{nat_eq, if◌then◌else◌}
 use Rattle.std.specs.List.{sum_by}
@@ -8,9 +8,9 @@ use Rattle.std.proofs.lemmas.Bool.Decides.{nat_tests}
 use Rattle.std.proofs.lemmas.List.Sums.{sum_by-cons, sum_by-append}
 use Rattle.shared_pages.specs.Counts.{AreCounted, is_one, occurs, different}
 use Rattle.shared_pages.specs.Store.{Memory, or_empty, joined, tabulate}
-use Rattle.shared_pages.proofs.Owners.{occurs_none}
+use Rattle.shared_pages.proofs.Owners.{is_one-other, occurs_cons, occurs_none}
 use Rattle.shared_pages.proofs.Named.{used_counted}
-use Rattle.shared_pages.proofs.Tabulate.{at_tabulate, past_tabulate}
+use Rattle.shared_pages.proofs.Tabulate.{at_tabulate, length-tabulate, past_tabulate}
 
 pub joined_sum : (p : ℕ) (ms : List (Option Memory)) → occurs p (joined ms) ≡ sum_by (λ (o : Option Memory). occurs p (or_empty o).pages) ms
 joined_sum p [] = refl
@@ -39,29 +39,63 @@ below_top [] i = omega arith
 below_top (x ∷ xs) zero = omega arith
 below_top (x ∷ xs) (suc i) = let rest = below_top xs i in omega (arith, rest)
 
--- how often each number stands in a list
-abbrev counts_of : List ℕ → List ℕ
-counts_of xs = tabulate (suc (top xs)) (λ p. if nat_eq p 0 then 1 else occurs p xs)
+-- how often each number below a bound stands in a list
+abbrev counts_of : ℕ → List ℕ → List ℕ
+counts_of n xs = tabulate n (λ p. if nat_eq p 0 then 1 else occurs p xs)
 
-counted_so : (xs : List ℕ) → AreCounted xs (counts_of xs)
-counted_so xs = record {
-  first = let one : get_or (counts_of xs) 0 0 ≡ 1 = at_tabulate (suc (top xs)) (λ p. if nat_eq p 0 then 1 else occurs p xs) 0 0 (omega arith) in
+chosen : (p x : ℕ) → 0 < p → (if nat_eq p 0 then 1 else x) ≡ x
+chosen p x h = grind (arith, nat_tests)
+
+counted_so : (n : ℕ) (xs : List ℕ) → top xs < n → AreCounted xs (counts_of n xs)
+counted_so n xs bound = record {
+  first = let one : get_or (counts_of n xs) 0 0 ≡ 1 = at_tabulate n (λ p. if nat_eq p 0 then 1 else occurs p xs) 0 0 (omega (arith, bound)) in
       omega (arith, one);
-  counted = λ p some. elim (cases_lt p (suc (top xs))) [
-    | inl low ↦ at_tabulate (suc (top xs)) (λ p. if nat_eq p 0 then 1 else occurs p xs) p 0 low ∙ chosen p (occurs p xs) some
-    | inr high ↦ past_tabulate (suc (top xs)) (λ p. if nat_eq p 0 then 1 else occurs p xs) p 0 high
-        ∙ sym (occurs_none p xs (λ j low e. let le = below_top xs j in absurd (omega (arith, le, e, high))))
+  counted = λ p some. elim (cases_lt p n) [
+    | inl low ↦ at_tabulate n (λ p. if nat_eq p 0 then 1 else occurs p xs) p 0 low ∙ chosen p (occurs p xs) some
+    | inr high ↦ past_tabulate n (λ p. if nat_eq p 0 then 1 else occurs p xs) p 0 high
+        ∙ sym (occurs_none p xs (λ j low e. let le = below_top xs j in absurd (omega (arith, le, e, high, bound))))
   ];
 }
-  where
-    chosen : (p x : ℕ) → 0 < p → (if nat_eq p 0 then 1 else x) ≡ x
-    chosen p x h = grind (arith, nat_tests)
+
+-- lists that have a number at the same places
+pub occurs_alike : (p : ℕ) (xs ys : List ℕ) → length xs ≡ length ys
+    → ((i : ℕ) → i < length xs → is_one p (get_or xs i 0) ≡ is_one p (get_or ys i 0)) → occurs p xs ≡ occurs p ys
+occurs_alike p [] [] long same = refl
+occurs_alike p [] (y ∷ ys) long same = absurd (omega (arith, long))
+occurs_alike p (x ∷ xs) [] long same = absurd (omega (arith, long))
+occurs_alike p (x ∷ xs) (y ∷ ys) long same =
+    let rest = occurs_alike p xs ys (omega (arith, long)) (λ i low. same (suc i) (omega (arith, low))) in
+    let one = same 0 (omega arith) in
+    let a = occurs_cons p x xs in
+    let b = occurs_cons p y ys in
+    omega (arith, rest, one, a, b)
+
+positive_alike : (a b : ℕ) → (0 < a → 0 < b) → (0 < b → 0 < a) → is_one 0 a ≡ is_one 0 b
+positive_alike zero zero there back = refl
+positive_alike zero (suc b) there back = let h = back (omega arith) in absurd (omega (arith, h))
+positive_alike (suc a) zero there back = let h = there (omega arith) in absurd (omega (arith, h))
+positive_alike (suc a) (suc b) there back = is_one-other 0 (suc a) (λ e. absurd (omega (arith, e))) ∙ sym (is_one-other 0 (suc b) (λ e. absurd (omega (arith, e))))
+
+-- two lists that have the same numbers but 0 have equally many different ones
+pub different_alike : (xs ys : List ℕ) → ((p : ℕ) → 0 < p → 0 < occurs p xs → 0 < occurs p ys)
+    → ((p : ℕ) → 0 < p → 0 < occurs p ys → 0 < occurs p xs) → different xs ≡ different ys
+different_alike xs ys there back =
+    let n = suc (top xs + top ys) in
+    let f : ℕ → ℕ = λ p. if nat_eq p 0 then 1 else occurs p xs in
+    let g : ℕ → ℕ = λ p. if nat_eq p 0 then 1 else occurs p ys in
+    let u = used_counted xs (tabulate n f) (counted_so n xs (omega arith)) in
+    let v = used_counted ys (tabulate n g) (counted_so n ys (omega arith)) in
+    let long = length-tabulate n f in
+    let also = length-tabulate n g in
+    let free = occurs_alike 0 (tabulate n f) (tabulate n g) (omega (arith, long, also)) (λ i low.
+    let below : i < n = omega (arith, low, long) in
+    ap (is_one 0) (at_tabulate n f i 0 below) ∙ (elim (cases_lt 0 i) [
+      | inl some ↦ ap (is_one 0) (chosen i (occurs i xs) some) ∙ positive_alike (occurs i xs) (occurs i ys) (there i some) (back i some)
+          ∙ ap (is_one 0) (sym (chosen i (occurs i ys) some))
+      | inr none ↦ let z : i ≡ 0 = omega (arith, none) in ap (λ (k : ℕ). is_one 0 (f k)) z ∙ ap (λ (k : ℕ). is_one 0 (g k)) (sym z)
+    ]) ∙ ap (is_one 0) (sym (at_tabulate n g i 0 below))) in
+    omega (arith, u, v, long, also, free)
 
 -- two lists in which each number but 0 stands equally often have equally many different ones
 pub different_same : (xs ys : List ℕ) → ((p : ℕ) → 0 < p → occurs p xs ≡ occurs p ys) → different xs ≡ different ys
-different_same xs ys same =
-    let a = counted_so xs in
-    let b : AreCounted ys (counts_of xs) = record { first = a.first; counted = λ p some. a.counted p some ∙ same p some } in
-    let u = used_counted xs (counts_of xs) a in
-    let v = used_counted ys (counts_of xs) b in
-    omega (arith, u, v)
+different_same xs ys same = different_alike xs ys (λ p some h. let e = same p some in omega (arith, e, h)) (λ p some h. let e = same p some in omega (arith, e, h))

@@ -15,3 +15,7 @@ pub mod Runs
 pub mod Openings
 pub mod Laws
 pub mod HeldSteps
+pub mod Flat
+pub mod LeafSteps
+pub mod RowEnds
+pub mod Refused

@@ -1,5 +1,5 @@
 -- Entries and the counts of what they name.
-use Rattle.std.proofs.Common.{◌≡◌, ℕ, zero, suc, ◌+◌, ◌-◌, ◌<◌, ◌≤◌, List, [], ◌∷◌, ◌++◌, length, get_or, set, arith, ap, sym, ◌∙◌, refl}
+use Rattle.std.proofs.Common.{◌≡◌, ℕ, zero, suc, ◌+◌, ◌-◌, ◌<◌, ◌≤◌, List, [], ◌∷◌, ◌++◌, length, get_or, set, arith, ap, sym, ◌∙◌, refl, ◌≢◌, false, true}
 use Rattle.std.proofs.Common.{get_or-set_same, get_or-set_other, length-append, subst, inl, inr}
 use Rattle.std.proofs.Math.ListN.{length-set}
 use Rattle.std.proofs.lemmas.Bool.{cases_eq, cases_lt}
@@ -96,16 +96,6 @@ shares es counts i j a h k empty =
 pub length-one_more : (counts : List ℕ) (p : ℕ) → length (one_more counts p) ≡ length counts
 length-one_more counts zero = refl
 length-one_more counts (suc p) = length-set counts (suc p) (get_or counts (suc p) 0 + 1)
-
-pub free_one_more : (counts : List ℕ) (p : ℕ) → (0 < p → 0 < get_or counts p 0) → occurs 0 (one_more counts p) ≡ occurs 0 counts
-free_one_more counts zero h = refl
-free_one_more counts (suc p) h =
-    let some = h (omega arith) in
-    let below = below_nonzero counts (suc p) some in
-    let s = occurs-set 0 counts (suc p) (get_or counts (suc p) 0 + 1) below in
-    let was = is_one-other 0 (get_or counts (suc p) 0) (λ k. absurd (omega (arith, k, some))) in
-    let now = is_one-other 0 (get_or counts (suc p) 0 + 1) (λ k. absurd (omega (arith, k))) in
-    omega (arith, s, was, now)
 
 -- an entry that is 0 or shared names a number that none named
 pub renewed : (es counts next : List ℕ) (i p : ℕ) → AreCounted es counts → i < length es → IsShared es i → 0 < p
@@ -302,16 +292,6 @@ pub seen_shared : (es counts : List ℕ) (i j : ℕ)
     → names_of (set es j (get_or es i 0)) (one_more counts (get_or es i 0)) ≡ as_names (set es j (get_or es i 0)) (length counts)
 seen_shared es counts i j = ap (as_names (set es j (get_or es i 0))) (length-one_more counts (get_or es i 0))
 
-pub used_shared : (es counts : List ℕ) (i j : ℕ) → AreCounted es counts → i < length es → j < length es → get_or es j 0 ≡ 0
-    → different (set es j (get_or es i 0)) ≡ different es
-used_shared es counts i j a h k empty =
-    let p = get_or es i 0 in
-    let long = length-one_more counts p in
-    let free = free_one_more counts p (λ some. let o = occurs_at es i h in let c = a.counted p some in omega (arith, o, c)) in
-    let was = used_counted es counts a in
-    let now = used_counted (set es j p) (one_more counts p) (shares es counts i j a h k empty) in
-    omega (arith, long, free, was, now)
-
 -- the limit is named by no entry
 pub none_names_limit : (es counts : List ℕ) → AreCounted es counts → occurs (length counts) es ≡ 0
 none_names_limit es counts a =
@@ -367,3 +347,10 @@ used_cleared es counts i a h =
     let was = used_counted es counts a in
     let now = used_counted (set es i 0) (one_less counts (get_or es i 0)) (cleared es counts i a h) in
     omega (arith, free, was, now)
+
+-- an entry that isn't the only one of its number is 0 or shared
+pub shared_when : (es : List ℕ) (i : ℕ) → i < length es → own_at es i ≡ false → IsShared es i
+shared_when es i h other ne = two (get_or es i 0) (occurs (get_or es i 0) es) ne (occurs_at es i h) other
+  where
+    two : (p n : ℕ) → p ≢ 0 → 0 < n → (nat_lt 0 p && (n == 1)) ≡ false → 2 ≤ n
+    two p n h k other = grind (arith, nat_tests)

@@ -3,7 +3,7 @@ use Rattle.am_base.specs.declared.limits.TheConstants.{MEMORY_BYTES, PAGE_BYTES}
 use Rattle.shared_pages.specs.Size.{memory_pages}
 use Rattle.std.proofs.Common.{◌≡◌, ◌≢◌, ℕ, zero, suc, ◌+◌, ◌-◌, ◌*◌, ◌/◌, ◌<◌, ◌≤◌, List, [], ◌∷◌, Bool, true, false, length, get_or, set, take, drop}
 use Rattle.std.proofs.Common.{Option, Some, None, max, arith, ap, sym, ◌∙◌, refl, inl, inr, get_or-set_same, get_or-set_other}
-use Rattle.std.specs.Prelude.{IsTrue, ◌↔◌, Result, Ok, Err, OnErr, is_some, ◌&&◌, ◌==◌, ◌%◌, not, nat_eq, nat_lt, if◌then◌else◌}
+use Rattle.std.specs.Prelude.{IsTrue, ◌↔◌, is_some, ◌&&◌, ◌==◌, ◌%◌, not, nat_eq, nat_lt, if◌then◌else◌}
 use Rattle.std.specs.List.{count_by}
 use Rattle.std.proofs.Math.ListN.{length-set}
 use Rattle.std.proofs.lemmas.Bool.{and_from, cases_eq, cases_lt}
@@ -70,11 +70,6 @@ module _ (bs page : List ℕ) (zeros : (o : ℕ) → o < PAGE_BYTES → get_or b
       go true false e iff = refl
       go false true e iff = refl
       go false false e iff = absurd (not_both (iff.1 (λ same. not_both (sym e ∙ zero_as_same same))))
-
--- what holds of an error
-pub on_err : {A E P : Type 0} (r : Result A E) → P → OnErr r P
-on_err (Ok x) p = tt
-on_err (Err e) p = p
 
 pub full_when : (bytes : List ℕ) (i : ℕ) (z : Bool) → are_zero (page_of bytes i) ≡ z → is_full bytes i ≡ not z
 unfolding is_full

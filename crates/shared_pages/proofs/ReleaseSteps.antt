@@ -15,7 +15,7 @@ use Rattle.shared_pages.proofs.ForkSteps.{row_apart, copy_seen}
 use Rattle.shared_pages.proofs.Kept.{same_memory}
 
 -- an entry outside the row
-unmoved : (old new : Names) (m j : ℕ) → IsCleared old new m memory_pages → (j < m * memory_pages) ⊎ (m * memory_pages + memory_pages ≤ j)
+unmoved : (old new : Names) (m j : ℕ) → IsCleared memory_pages old new m memory_pages → (j < m * memory_pages) ⊎ (m * memory_pages + memory_pages ≤ j)
     → get_or new.entries j 0 ≡ get_or old.entries j 0
 unmoved old new m j cleared far = elim far [ inl k ↦ cleared.below j k | inr k ↦ cleared.above j k ]
 
@@ -24,13 +24,13 @@ left_live : (slots : List ℕ) (m k n : ℕ) → k ≢ m → is_live (set slots 
 left_live slots m k n ne = ap (λ (q : ℕ). nat_lt 0 k && nat_lt 0 q) (get_or-set_other slots m k n 0 ne)
 
 -- no other memory changes
-pub released_same : (slots : List ℕ) (old new : Names) (bs : List ℕ) (p m k : ℕ) → IsCleared old new m memory_pages → k ≢ m
+pub released_same : (slots : List ℕ) (old new : Names) (bs : List ℕ) (p m k : ℕ) → IsCleared memory_pages old new m memory_pages → k ≢ m
     → memory (seen (set slots m (get_or slots m 0 - 1)) new bs p) k ≡ memory (seen slots old bs p) k
 released_same slots old new bs p m k cleared ne =
     same_memory slots (set slots m (get_or slots m 0 - 1)) old new bs bs p p k (left_live slots m k (get_or slots m 0 - 1) ne)
     (λ live. copy_seen old.entries new.entries bs k k (λ i h. unmoved old new m (k * memory_pages + i) cleared (row_apart k m i ne h)))
 
-pub released_store : (slots : List ℕ) (old new : Names) (bs : List ℕ) (p m : ℕ) → IsStore slots old bs p → IsCleared old new m memory_pages
+pub released_store : (slots : List ℕ) (old new : Names) (bs : List ℕ) (p m : ℕ) → IsStore slots old bs p → IsCleared memory_pages old new m memory_pages
     → m < length slots → 0 < m → IsStore (set slots m (get_or slots m 0 - 1)) new bs p
 released_store slots old new bs p m store cleared below some =
     let tables = store.tables in
@@ -70,7 +70,7 @@ released_store slots old new bs p m store cleared below some =
     }
 
 -- a count of the pages of a row
-pub counted_own : (es : List ℕ) (m n : ℕ) → count_by (λ b. b) (tabulate n (λ i. own_at es (m * memory_pages + i))) ≡ own_below es m n
+pub counted_own : (es : List ℕ) (m n : ℕ) → count_by (λ b. b) (tabulate n (λ i. own_at es (m * memory_pages + i))) ≡ own_below memory_pages es m n
 unfolding own_below
 counted_own es m zero = counted_none (λ i. own_at es (m * memory_pages + i))
 counted_own es m (suc n) =
@@ -80,14 +80,14 @@ counted_own es m (suc n) =
     ∙ ap (λ (k : ℕ). k + one_if (own_at es (m * memory_pages + n))) (counted_own es m n)
 
 pub own_counted : (slots : List ℕ) (names : Names) (bs : List ℕ) (p m : ℕ) → IsStore slots names bs p → IsIn (seen slots names bs p) m
-    → own_count (seen slots names bs p) m ≡ own_below names.entries m memory_pages
+    → own_count (seen slots names bs p) m ≡ own_below memory_pages names.entries m memory_pages
 own_counted slots names bs p m store known =
     ap (count_by (λ b. b)) (same_tabulate memory_pages (is_own (seen slots names bs p) m) (λ i. own_at names.entries (m * memory_pages + i))
     (λ i low. own_seen slots names bs p m i store known low))
     ∙ counted_own names.entries m memory_pages
 
 -- how many pages are used
-pub released_used : (slots : List ℕ) (old new : Names) (bs : List ℕ) (p m : ℕ) → IsStore slots old bs p → IsCleared old new m memory_pages
+pub released_used : (slots : List ℕ) (old new : Names) (bs : List ℕ) (p m : ℕ) → IsStore slots old bs p → IsCleared memory_pages old new m memory_pages
     → m < length slots → 0 < m → IsIn (seen slots old bs p) m
     → used_pages (seen (set slots m (get_or slots m 0 - 1)) new bs p) + own_count (seen slots old bs p) m ≡ used_pages (seen slots old bs p)
 released_used slots old new bs p m store cleared below some known =

@@ -4,3 +4,4 @@ pub mod Opening
 pub mod Rows
 pub mod Size
 pub mod Store
+pub mod Tables

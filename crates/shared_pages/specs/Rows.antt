@@ -1,33 +1,31 @@
--- Rows of 1,024 entries.
+-- Rows of entries, each of a width.
 use Rattle.am_base.specs.declared.limits.TheConstants.{PAGE_BYTES}
-use Rattle.shared_pages.specs.Size.{memory_pages}
 use Rattle.std.specs.Prelude.{ℕ, zero, suc, List, ◌⊎◌, slice_set, ◌≢◌, ◌+◌, ◌*◌, ◌<◌, ◌≤◌, ◌≡◌, ◌^◌, length, slice_index}
 use Rattle.shared_pages.specs.Counts.{Names, occurs, different, one_if}
 use Rattle.shared_pages.specs.Store.{own_at}
 
 -- the first entries of row n are those of row m, and no other entry differs
-pub record IsCopied (old new : Names) (m n count : ℕ) : Type 0 where
+pub record IsCopied (wide : ℕ) (old new : Names) (m n count : ℕ) : Type 0 where
   pub long : length new.entries ≡ length old.entries
   pub limit : new.limit ≡ old.limit
-  pub used : different new.entries ≡ different old.entries
-  pub copied : (j : ℕ) → j < count → slice_index new.entries (n * memory_pages + j) ≡ slice_index old.entries (m * memory_pages + j)
-  pub below : (j : ℕ) → j < n * memory_pages → slice_index new.entries j ≡ slice_index old.entries j
-  pub above : (j : ℕ) → n * memory_pages + count ≤ j → slice_index new.entries j ≡ slice_index old.entries j
+  pub copied : (j : ℕ) → j < count → slice_index new.entries (n * wide + j) ≡ slice_index old.entries (m * wide + j)
+  pub below : (j : ℕ) → j < n * wide → slice_index new.entries j ≡ slice_index old.entries j
+  pub above : (j : ℕ) → n * wide + count ≤ j → slice_index new.entries j ≡ slice_index old.entries j
 
 -- how many of the first entries of row n are the only ones that name their number
-unfoldable pub own_below : List ℕ → ℕ → ℕ → ℕ
-own_below entries n zero = 0
-own_below entries n (suc i) = own_below entries n i + one_if (own_at entries (n * memory_pages + i))
+unfoldable pub own_below : ℕ → List ℕ → ℕ → ℕ → ℕ
+own_below wide entries n zero = 0
+own_below wide entries n (suc i) = own_below wide entries n i + one_if (own_at entries (n * wide + i))
 
 -- the first entries of row n are 0, and no other entry differs
-pub record IsCleared (old new : Names) (n count : ℕ) : Type 0 where
+pub record IsCleared (wide : ℕ) (old new : Names) (n count : ℕ) : Type 0 where
   pub long : length new.entries ≡ length old.entries
   pub limit : new.limit ≡ old.limit
-  pub used : different new.entries + own_below old.entries n count ≡ different old.entries
-  pub cleared : (j : ℕ) → j < count → slice_index new.entries (n * memory_pages + j) ≡ 0
-  pub below : (j : ℕ) → j < n * memory_pages → slice_index new.entries j ≡ slice_index old.entries j
-  pub above : (j : ℕ) → n * memory_pages + count ≤ j → slice_index new.entries j ≡ slice_index old.entries j
-  pub others : (p : ℕ) → 0 < p → ((j : ℕ) → j < count → slice_index old.entries (n * memory_pages + j) ≢ p) → occurs p new.entries ≡ occurs p old.entries
+  pub used : different new.entries + own_below wide old.entries n count ≡ different old.entries
+  pub cleared : (j : ℕ) → j < count → slice_index new.entries (n * wide + j) ≡ 0
+  pub below : (j : ℕ) → j < n * wide → slice_index new.entries j ≡ slice_index old.entries j
+  pub above : (j : ℕ) → n * wide + count ≤ j → slice_index new.entries j ≡ slice_index old.entries j
+  pub others : (p : ℕ) → 0 < p → ((j : ℕ) → j < count → slice_index old.entries (n * wide + j) ≢ p) → occurs p new.entries ≡ occurs p old.entries
 
 -- number n has an owner, and no other number changed
 pub record IsTaken (old new : List ℕ) (n : ℕ) : Type 0 where

@@ -2,12 +2,14 @@
 #![tactic(auto)]
 
 mod law;
+mod leaves;
 mod naming;
 mod opening;
 mod pages;
 mod pool;
 mod rows;
 mod store;
+mod tables;
 #[cfg(test)]
 mod tests;
 

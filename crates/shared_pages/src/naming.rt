@@ -1,5 +1,5 @@
 //! Lists of entries whose names are counted.
-ghost use Rattle.std.specs.Prelude.{◌≡◌, ℕ, ◌+◌, ◌^◌, ◌<◌, ◌≤◌, ◌++◌, [], length, replicate, slice_index, slice_set, IfOk, IfSome, IfNone, OnOk, OnErr};
+ghost use Rattle.std.specs.Prelude.{◌≡◌, ◌≢◌, ℕ, ◌+◌, ◌^◌, ◌<◌, ◌≤◌, ◌++◌, [], length, replicate, slice_index, slice_set, IfOk, IfSome, IfNone, OnOk, OnErr};
 ghost use Rattle.shared_pages.specs.Counts.{occurs, different, IsShared, one_if};
 ghost use Rattle.shared_pages.specs.Store.{own_at};
 
@@ -72,13 +72,13 @@ impl Naming {
         self.entries[at]
     }
 
-    /// How many entries name a number other than 0.
-    pub(crate) fn count(&self, p: u32) -> u32
-        requires other { 0 < p }
-        requires below { p < self.now.limit }
-        ensures { result ≡ occurs p self.now.entries }
+    /// Whether an entry names a number other than 0 that no other entry names.
+    pub(crate) fn is_own(&self, at: usize) -> bool
+        requires { at < length self.now.entries }
+        ensures { result ≡ own_at self.now.entries at }
     {
-        self.owners.count(p)
+        let p = self.entry(at);
+        p != 0 && self.owners.count(p) == 1
     }
 
     /// Adds entries that are 0.
@@ -98,14 +98,27 @@ impl Naming {
         requires from { from < length self.old.entries }
         requires place { at < length self.old.entries }
         requires empty { slice_index self.old.entries at ≡ 0 }
-        ensures names { self.new ≡ record self.old {
+        ensures { self.new ≡ record self.old {
           entries = slice_set self.old.entries at (slice_index self.old.entries from);
         } }
-        ensures used { different self.new.entries ≡ different self.old.entries }
     {
         let p = self.entries[from];
         self.owners.more_but_zero(p);
         self.entries[at] = p;
+    }
+
+    /// Lets an entry name what another one names, whatever it named before.
+    pub(crate) fn replace(&mut self, from: usize, at: usize)
+        requires few { length self.old.entries < 2 ^ 32 }
+        requires from { from < length self.old.entries }
+        requires place { at < length self.old.entries }
+        requires apart { from ≢ at }
+        ensures { self.new ≡ record self.old {
+          entries = slice_set self.old.entries at (slice_index self.old.entries from);
+        } }
+    {
+        self.clear(at);
+        self.share(from, at);
     }
 
     /// Makes an entry 0.
@@ -128,6 +141,7 @@ impl Naming {
         ensures unnamed { IfSome result (λ p. occurs p self.old.entries ≡ 0) }
         ensures some { IfSome result (λ p. self.new ≡ record self.old { entries = slice_set self.old.entries at p }) }
         ensures used { IfSome result (λ _. different self.new.entries ≡ different self.old.entries + 1) }
+        ensures full { IfNone result (self.old.limit ≡ different self.old.entries + 1) }
         ensures none { IfNone result (self.new ≡ self.old) }
     {
         let p = self.owners.take_free()?;
@@ -141,6 +155,7 @@ impl Naming {
         requires place { at < length self.old.entries }
         requires shared { IsShared self.old.entries at }
         requires few { self.old.limit < 2 ^ 32 }
+        ensures other { 0 < self.old.limit }
         ensures unnamed { occurs self.old.limit self.old.entries ≡ 0 }
         ensures ok { OnOk result (self.new ≡ record {
           entries = slice_set self.old.entries at self.old.limit;

@@ -3,7 +3,7 @@ ghost use Rattle.std.specs.Prelude.{◌≡◌, ◌≢◌, ℕ, ◌+◌, ◌*◌,
 ghost use Rattle.shared_pages.specs.Counts.{occurs, different, IsShared};
 ghost use Rattle.shared_pages.specs.Rows.{IsRenewed};
 
-use crate::naming::Naming;
+use crate::tables::Tables;
 use am_base::PAGE_BYTES;
 use std::alloc::AllocError;
 
@@ -25,8 +25,9 @@ pub(crate) fn page_room(bytes: &mut Vec<u8>, number: usize) -> Result<(), AllocE
     Ok(())
 }
 
-/// Lets an entry that is 0 or shared name a number that no entry names, and that has a page.
-fn fresh_page(tables: &mut Naming, bytes: &mut Vec<u8>, at: usize) -> Result<u32, AllocError>
+/// Lets an entry that is 0 or shared name a number that no entry names, and that has a page. It is a
+/// new number only where every number that was given out is named.
+fn fresh_page(tables: &mut Tables, bytes: &mut Vec<u8>, at: usize) -> Result<u32, AllocError>
     requires place { at < length tables.old.entries }
     requires shared { IsShared tables.old.entries at }
     requires pages { PAGE_BYTES * tables.old.limit ≤ length bytes.old.items }
@@ -35,12 +36,13 @@ fn fresh_page(tables: &mut Naming, bytes: &mut Vec<u8>, at: usize) -> Result<u32
     ensures below { IfOk result (λ p. p < tables.new.limit) }
     ensures entries { IfOk result (λ p. tables.new.entries ≡ slice_set tables.old.entries at p) }
     ensures used { OnOk result (different tables.new.entries ≡ different tables.old.entries + 1) }
+    ensures reused { OnOk result (tables.new.limit ≢ tables.old.limit → tables.old.limit ≡ different tables.old.entries + 1) }
     ensures pages { PAGE_BYTES * tables.new.limit ≤ length bytes.new.items }
     ensures longer { length bytes.old.items ≤ length bytes.new.items }
     ensures same { (i : ℕ) → slice_index bytes.new.items i ≡ slice_index bytes.old.items i }
     ensures err { OnErr result (tables.new ≡ tables.old) }
 {
-    if let Some(number) = tables.renew(at) {
+    if let Some(number) = tables.renew(at)? {
         return Ok(number);
     }
     let limit = tables.limit();
@@ -68,7 +70,7 @@ fn copy_page(bytes: &mut Vec<u8>, from: usize, to: usize)
 /// Lets an entry that is 0 or shared name a fresh page with the bytes of the page that it named
 /// before.
 pub(crate) fn copied_page(
-    tables: &mut Naming,
+    tables: &mut Tables,
     bytes: &mut Vec<u8>,
     at: usize,
 ) -> Result<u32, AllocError>

@@ -65,6 +65,7 @@ impl Pool {
         ensures other { IfSome result (λ p. 0 < p) }
         ensures free { IfSome result (λ p. slice_index_or self.old p 1 ≡ 0) }
         ensures taken { IfSome result (λ p. self.new ≡ slice_set self.old p 1) }
+        ensures full { IfNone result (occurs 0 self.old ≡ 0) }
         ensures none { IfNone result (self.new ≡ self.old) }
     {
         let p = self.free.pop()?;

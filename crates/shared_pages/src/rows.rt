@@ -1,46 +1,32 @@
-//! The rows of a table, one for each memory, with an entry for each page.
-ghost use Rattle.std.specs.Prelude.{◌≡◌, ◌≢◌, ℕ, ◌+◌, ◌-◌, ◌*◌, ◌^◌, ◌<◌, ◌≤◌, length, slice_index, IfOk, OnOk, OnErr};
+//! The rows of the tables, one for each memory, with an entry for each page.
+ghost use Rattle.std.specs.Prelude.{◌≡◌, ◌≢◌, ℕ, ◌+◌, ◌*◌, ◌^◌, ◌<◌, ◌≤◌, length, slice_index, IfOk, OnOk, OnErr};
 ghost use Rattle.shared_pages.specs.Size.{memory_pages};
-ghost use Rattle.shared_pages.specs.Rows.{IsCopied, IsCleared, IsTaken, IsExtended};
+ghost use Rattle.shared_pages.specs.Rows.{IsCleared, IsTaken, IsExtended};
 
-use crate::naming::Naming;
+use crate::leaves::TABLE;
 use crate::pool::Pool;
+use crate::tables::Tables;
 use am_base::{MEMORY_BYTES, PAGE_BYTES};
 use std::alloc::AllocError;
 
 /// How many pages a memory has: the entries of its row.
 pub(crate) const MEMORY_PAGES: usize = (MEMORY_BYTES / PAGE_BYTES) as usize;
 
-/// Lets each entry of an empty row name what the same entry of another row names.
-pub(crate) fn share_row(tables: &mut Naming, m: usize, n: usize)
-    requires from { m * memory_pages + memory_pages ≤ length tables.old.entries }
-    requires to { n * memory_pages + memory_pages ≤ length tables.old.entries }
-    requires few { length tables.old.entries < 2 ^ 32 }
-    requires apart { m ≢ n }
-    requires empty { (i : ℕ) → i < memory_pages → slice_index tables.old.entries (n * memory_pages + i) ≡ 0 }
-    ensures { IsCopied tables.old tables.new m n memory_pages }
-{
-    for i in 0..MEMORY_PAGES {
-        tables.share(m * MEMORY_PAGES + i, n * MEMORY_PAGES + i);
-    }
-}
-
 /// Makes each entry of a row 0.
-#[tactic(auto, unfolding(crate::specs::Rows::own_below))]
-pub(crate) fn clear_row(tables: &mut Naming, n: usize)
+pub(crate) fn clear_row(tables: &mut Tables, n: usize)
     requires place { n * memory_pages + memory_pages ≤ length tables.old.entries }
     requires few { length tables.old.entries < 2 ^ 32 }
     requires apart { (i j : ℕ) → i < memory_pages → j < memory_pages → slice_index tables.old.entries (n * memory_pages + i) ≢ 0
         → slice_index tables.old.entries (n * memory_pages + i) ≡ slice_index tables.old.entries (n * memory_pages + j) → i ≡ j }
-    ensures { IsCleared tables.old tables.new n memory_pages }
+    ensures { IsCleared memory_pages tables.old tables.new n memory_pages }
 {
-    for i in 0..MEMORY_PAGES {
-        tables.clear(n * MEMORY_PAGES + i);
+    for i in 0..TABLE {
+        tables.clear_leaf(n * TABLE + i);
     }
 }
 
 /// Makes room for one row more.
-pub(crate) fn make_room(tables: &mut Naming, rows: usize) -> Result<(), AllocError>
+pub(crate) fn make_room(tables: &mut Tables, rows: usize) -> Result<(), AllocError>
     requires rows { memory_pages * rows ≤ length tables.old.entries }
     requires few { length tables.old.entries < 2 ^ 32 }
     ensures tables { IsExtended tables.old tables.new }
@@ -53,13 +39,13 @@ pub(crate) fn make_room(tables: &mut Naming, rows: usize) -> Result<(), AllocErr
     if tables.len() >= u32::MAX as usize - MEMORY_PAGES {
         return Err(AllocError);
     }
-    tables.extend(MEMORY_PAGES)?;
+    tables.extend()?;
     Ok(())
 }
 
 /// Gives out the number of a memory, whose row is empty. After a refusal no number is given out;
 /// there may be more empty rows.
-pub(crate) fn new_row(slots: &mut Pool, tables: &mut Naming) -> Result<u32, AllocError>
+pub(crate) fn new_row(slots: &mut Pool, tables: &mut Tables) -> Result<u32, AllocError>
     requires rows { memory_pages * length slots.old ≤ length tables.old.entries }
     requires few { length tables.old.entries < 2 ^ 32 }
     ensures other { IfOk result (λ n. 0 < n) }

@@ -5,11 +5,11 @@ ghost use Rattle.shared_pages.specs.Opening.{IsBegun, are_zero, full_count, zero
 ghost use Rattle.shared_pages.specs.Size.{memory_pages};
 ghost use Rattle.shared_pages.specs.Store.{memory, the_memory, IsIn, owns, own_count, used_pages, written, IsMadeOwn, IsReserved};
 
-use crate::naming::Naming;
 use crate::opening::open;
 use crate::pages::{PAGE, copied_page, page_room};
 use crate::pool::Pool;
-use crate::rows::{MEMORY_PAGES, clear_row, make_room, new_row, share_row};
+use crate::rows::{MEMORY_PAGES, clear_row, make_room, new_row};
+use crate::tables::Tables;
 use am_base::{MEMORY_BYTES, OutOfMemory, PAGE_BYTES};
 use lane_ops::page_differs;
 use std::alloc::Global;
@@ -37,7 +37,7 @@ pub struct PageStore {
     /// A number that has an owner is a memory's.
     slots: Pool,
     /// For each memory the numbers of its pages. Page 0 is all zero.
-    tables: Naming,
+    tables: Tables,
     /// The bytes of page 0, of page 1, and so on.
     bytes: Vec<u8>,
     peak: u64,
@@ -61,7 +61,7 @@ impl PageStore {
         ensures peak { IfOk result (λ s. s.peak ≡ 1) }
     {
         let slots = Pool::new(alloc)?;
-        let mut tables = Naming::new(alloc)?;
+        let mut tables = Tables::new(alloc)?;
         make_room(&mut tables, 0)?;
         let mut bytes = Vec::new(alloc);
         page_room(&mut bytes, 0)?;
@@ -86,6 +86,12 @@ impl PageStore {
         ensures most { used_pages self.now ≤ result }
     {
         self.peak
+    }
+
+    /// Returns for how many pages the store has bytes.
+    #[cfg(test)]
+    pub(crate) fn held(&self) -> usize {
+        self.bytes.len() / PAGE
     }
 
     /// Returns the byte of a memory at an address. O(1).
@@ -188,7 +194,7 @@ impl PageStore {
 
     /// Adds a memory that is equal to another one: it has the same bytes in the same pages. So it
     /// takes no page, and afterwards neither of the two has a page of its own. It copies a table of
-    /// one entry for each page. After a refusal the store is as it was.
+    /// 32 entries, each of which stands for 32 pages. After a refusal the store is as it was.
     pub fn fork(&mut self, _alloc: Global, id: &MemId) -> Result<MemId, OutOfMemory>
         requires known { IsIn self.old id.now }
         ensures fresh { IfOk result (λ n. memory self.old n ≡ None) }
@@ -199,7 +205,7 @@ impl PageStore {
         ensures err { OnErr result (self.new ≡ self.old) }
     {
         let number = new_row(&mut self.slots, &mut self.tables)?;
-        share_row(&mut self.tables, id.number as usize, number as usize);
+        self.tables.share_row(id.number as usize, number as usize);
         Ok(MemId { number })
     }
 
@@ -211,8 +217,7 @@ impl PageStore {
         ensures err { OnErr result (self.new ≡ self.old) }
     {
         let at = id.number as usize * MEMORY_PAGES + page;
-        let old = self.tables.entry(at);
-        if old != 0 && self.tables.count(old) == 1 {
+        if self.tables.is_own(at) {
             return Ok(());
         }
         copied_page(&mut self.tables, &mut self.bytes, at)?;

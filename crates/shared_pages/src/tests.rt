@@ -89,6 +89,43 @@ fn shares(rt: HostRuntime) -> Result<(), Fail> {
     Ok(())
 }
 
+/// Forks a memory of two pages, gives the fork two pages of its own, and lets it go.
+fn fork_once(rt: &impl Abort, alloc: Global, store: &mut PageStore, id: &MemId)
+    requires { IsIn store.old id.now }
+    ensures { IsIn store.new id.now }
+{
+    let fork = store.fork(alloc, id).expect(rt, "a table");
+    store
+        .reserve(alloc, &fork, &[0, 70_000])
+        .expect(rt, "two pages");
+    assert_eq!(rt; store.used(), 5);
+    store.release(fork);
+    assert_eq!(rt; store.used(), 3);
+}
+
+/// Does it again and again.
+fn fork_often(rt: &impl Abort, alloc: Global, store: &mut PageStore, id: &MemId)
+    requires { IsIn store.old id.now }
+    ensures { IsIn store.new id.now }
+{
+    'forks: for _ in 0..1_000 {
+        fork_once(rt, alloc, store, id);
+    }
+}
+
+/// Pages that are free are taken again before new ones: the store never has bytes for more pages
+/// than were used at once.
+#[test]
+fn takes_pages_again(rt: HostRuntime) -> Result<(), Fail> {
+    let mut store = PageStore::new(rt.alloc())?;
+    let bytes = sevens(rt.alloc(), &[0, 5_000])?;
+    let id = store.begin(rt.alloc(), &bytes).expect(&rt, "two pages");
+    fork_often(&rt, rt.alloc(), &mut store, &id);
+    store.release(id);
+    assert_eq!(rt; (store.used(), store.peak(), store.held()), (1, 5, 5));
+    Ok(())
+}
+
 /// How many forks of one memory are held at once.
 const FORKS: usize = 16_384;
 

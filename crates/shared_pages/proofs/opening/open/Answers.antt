@@ -1,7 +1,8 @@
 use Rattle.std.proofs.Common.{arith, subst, sym}
 use Rattle.shared_pages.specs.Store.{Store}
 use Rattle.shared_pages.specs.Opening.{IsLeft, full_count}
-use Rattle.shared_pages.proofs.Openings.{on_err, opened_empty, opened_left, opened_more, opened_none}
+use Rattle.shared_pages.proofs.Openings.{opened_empty, opened_left, opened_more, opened_none}
+use Rattle.shared_pages.proofs.Refused.{on_err}
 use Rattle.shared_pages.proofs.opening.open.Goals as goal
 
 pub pages-init : goal.pages-init

@@ -23,6 +23,20 @@ write-requires-2-clause-own g c =
     ∙ written_own c.reserve.new.self n 2053 8 c.reserve.ensures.reserved.alive n (0 / PAGE_BYTES)
     ∙ own 1 0 (omega arith)
 
+pub read-requires-2-clause-known : goal.read-requires-2-clause-known
+read-requires-2-clause-known g c =
+    let m = c.expect-old.result in
+    let n = c.expect-new.result in
+    let begun = subst (λ r. IfOk r (λ k. IsBegun c.begin.new.self k c.deref.result.now)) c.expect-old.ensures c.begin.ensures.begun in
+    let fresh : memory c.begin.new.self n ≡ None =
+    subst (λ r. IfOk r (λ k. memory c.begin.new.self k ≡ None)) c.expect-new.ensures c.fork.ensures.fresh in
+    let apart : m ≡ n → ⊥ = (λ e. not_in c.begin.new.self n fresh (subst (IsIn c.begin.new.self) e begun.alive)) in
+    let others = subst (λ r. IfOk r (λ k. (j : ℕ) → (j ≡ k → ⊥) → memory c.fork.new.self j ≡ memory c.begin.new.self j)) c.expect-new.ensures
+    c.fork.ensures.others in
+    ap is_some (ap (λ (s : Store). memory s m) c.write-2.ensures ∙ written_other c.write.new.self n 0 3 m apart
+    ∙ ap (λ (s : Store). memory s m) c.write.ensures ∙ written_other c.reserve.new.self n 2053 8 m apart
+    ∙ c.reserve.ensures.reserved.others m apart ∙ others m apart) ∙ begun.alive
+
 pub release-requires : goal.release-requires
 release-requires g c =
     let m = c.expect-old.result in

@@ -35,9 +35,9 @@ share_row-requires-clause-empty c i low =
 pub invariant_of-self-2 : goal.invariant_of-self-2
 invariant_of-self-2 c =
     let f = c.self.inside in
-    forked_store f.slots c.new_row.new.slots f.tables c.new_row.new.tables c.share_row.new.tables f.bytes.items f.peak c.id.inside.number
+    forked_store f.slots c.new_row.new.slots f.tables c.new_row.new.tables c.share_row.new.self f.bytes.items f.peak c.id.inside.number
     c.in_ok-number.number c.self.invariant c.in_ok-number.ensures.taken c.in_ok-number.ensures.other c.new_row.ensures.tables c.new_row.ensures.rows
-    c.share_row.ensures
+    c.share_row.ensures.copied c.share_row.ensures.used
 
 pub returns-clause-fresh : goal.returns-clause-fresh
 returns-clause-fresh c =
@@ -50,12 +50,12 @@ returns-clause-forked c =
     let f = c.self.inside in
     let m = c.id.inside.number in
     let n = c.in_ok-number.number in
-    let new = c.share_row.new.tables in
+    let new = c.share_row.new.self in
     let known = known_in (seen f.slots f.tables f.bytes.items f.peak) c.args.self.now m c.args.id.now c.self.view_is c.id.view_is c.requires.known in
     some_when c.new_row.new.slots new.entries f.bytes.items n
     (taken_live f.slots c.new_row.new.slots n c.in_ok-number.ensures.taken c.in_ok-number.ensures.other)
     ∙ ap (λ (x : Memory). Some x) (copy_seen f.tables.entries new.entries f.bytes.items m n (λ i low.
-    copied_row f.tables c.new_row.new.tables new m n i c.new_row.ensures.tables c.share_row.ensures low))
+    copied_row f.tables c.new_row.new.tables new m n i c.new_row.ensures.tables c.share_row.ensures.copied low))
     ∙ sym (live_is f.slots f.tables.entries f.bytes.items m known)
     ∙ ap (λ (s : Store). memory s m) c.self.view_is
     ∙ ap (λ (k : ℕ). memory c.args.self.now k) c.id.view_is
@@ -65,16 +65,16 @@ returns-clause-others c k ne =
     let f = c.self.inside in
     let m = c.id.inside.number in
     let n = c.in_ok-number.number in
-    let new = c.share_row.new.tables in
+    let new = c.share_row.new.self in
     added_others f.slots c.new_row.new.slots f.tables new f.bytes.items f.peak n k c.in_ok-number.ensures.taken ne (λ i low.
-    other_row f.tables c.new_row.new.tables new m n k i c.new_row.ensures.tables c.share_row.ensures ne low)
+    other_row f.tables c.new_row.new.tables new m n k i c.new_row.ensures.tables c.share_row.ensures.copied ne low)
     ∙ ap (λ (s : Store). memory s k) c.self.view_is
 
 pub returns-clause-used : goal.returns-clause-used
 returns-clause-used c =
     let f = c.self.inside in
     let was = used_seen f.slots f.tables f.bytes.items f.peak c.self.invariant in
-    let now = used_seen c.new_row.new.slots c.share_row.new.tables f.bytes.items f.peak (invariant_of-self-2 c) in
+    let now = used_seen c.new_row.new.slots c.share_row.new.self f.bytes.items f.peak (invariant_of-self-2 c) in
     let is = ap used_pages c.self.view_is in
     let more = c.new_row.ensures.tables.used in
     let copied = c.share_row.ensures.used in
