@@ -1,0 +1,4 @@
+pub mod Founds
+pub mod Answers
+pub mod OneEnd
+pub mod Due

@@ -1,0 +1,5 @@
+pub mod Status
+pub mod Plan
+pub mod Ends
+pub mod Answer
+pub mod Sharp

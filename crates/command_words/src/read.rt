@@ -1,0 +1,130 @@
+//! Which command words are.
+
+ghost use Rattle.std.specs.Prelude.{◌≡◌, ◌<◌, ◌∷◌, length, MatchOption};
+ghost use Rattle.std.specs.Option.{option_map};
+ghost use Rattle.command_words.specs.Words.{texts_of, meant};
+ghost use Rattle.command_words.specs.Words as spec;
+
+use crate::command::{Command, Files};
+use crate::number::number_in;
+use crate::options::{Allowed, first_of, options_of};
+
+/// Returns the names of three files and the words behind them.
+fn files_of<'a>(words: &'a [String]) -> Option<(Files<&'a str>, &'a [String])>
+    ensures { MatchOption result (length (texts_of words.now) < 3)
+        (λ parts. texts_of words.now
+        ≡ parts.0.module.now ∷ (parts.0.mutants.now ∷ (parts.0.tests.now ∷ texts_of parts.1.now))) }
+{
+    let (module, words) = first_of(words)?;
+    let (mutants, words) = first_of(words)?;
+    let (tests, words) = first_of(words)?;
+    let files = Files {
+        module,
+        mutants,
+        tests,
+    };
+    Some((files, words))
+}
+
+fn run_of<'a>(words: &'a [String]) -> Option<Command<&'a str>>
+    ensures { option_map meant result ≡ spec.run_of (texts_of words.now) }
+{
+    let (files, words) = files_of(words)?;
+    let may = Allowed {
+        budget: true,
+        order: true,
+        splits: true,
+    };
+    let options = options_of(may, words)?;
+    Some(Command::Run {
+        files,
+        budget: options.budget,
+        order: options.order,
+        splits: options.splits,
+    })
+}
+
+fn check_of<'a>(words: &'a [String]) -> Option<Command<&'a str>>
+    ensures { option_map meant result ≡ spec.check_of (texts_of words.now) }
+{
+    let (module, words) = first_of(words)?;
+    if words.is_empty() {
+        Some(Command::Check { module })
+    } else {
+        None
+    }
+}
+
+fn alone_of<'a>(words: &'a [String]) -> Option<Command<&'a str>>
+    ensures { option_map meant result ≡ spec.alone_of (texts_of words.now) }
+{
+    let (files, words) = files_of(words)?;
+    let (first, words) = first_of(words)?;
+    let (second, words) = first_of(words)?;
+    let mutant = number_in(first)?;
+    let test = number_in(second)?;
+    let may = Allowed {
+        budget: true,
+        order: false,
+        splits: false,
+    };
+    let options = options_of(may, words)?;
+    Some(Command::Alone {
+        files,
+        mutant,
+        test,
+        budget: options.budget,
+    })
+}
+
+fn groups_of<'a>(words: &'a [String]) -> Option<Command<&'a str>>
+    ensures { option_map meant result ≡ spec.groups_of (texts_of words.now) }
+{
+    let (files, words) = files_of(words)?;
+    let (first, words) = first_of(words)?;
+    let (second, words) = first_of(words)?;
+    let test = number_in(first)?;
+    let step = number_in(second)?;
+    let may = Allowed {
+        budget: true,
+        order: true,
+        splits: false,
+    };
+    let options = options_of(may, words)?;
+    Some(Command::Groups {
+        files,
+        test,
+        step,
+        budget: options.budget,
+        order: options.order,
+    })
+}
+
+/// Returns the command that the words after the program's name are; `None` iff they are none. No
+/// memory is taken, and beside the words of names and numbers at most five are looked at.
+///
+/// | Words | Options |
+/// |---|---|
+/// | `run MODULE MUTANTS TESTS` | `--budget N`, `--order NAME`, `--splits` |
+/// | `check MODULE` | |
+/// | `alone MODULE MUTANTS TESTS M T` | `--budget N` |
+/// | `groups MODULE MUTANTS TESTS T N` | `--budget N`, `--order NAME` |
+///
+/// A number is 1 to 10 digits without a leading zero, or `0`; a budget is one from 1 to
+/// `MAX_BUDGET`. Names are words of any spelling. The options stand in any order, each at most once.
+pub fn command_of<'a>(words: &'a [String]) -> Option<Command<&'a str>>
+    ensures { option_map meant result ≡ spec.command_of (texts_of words.now) }
+{
+    let (name, words) = first_of(words)?;
+    if name == "run" {
+        run_of(words)
+    } else if name == "check" {
+        check_of(words)
+    } else if name == "alone" {
+        alone_of(words)
+    } else if name == "groups" {
+        groups_of(words)
+    } else {
+        None
+    }
+}
