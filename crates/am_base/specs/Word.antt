@@ -39,11 +39,11 @@ abbrev pub word_of : Width → ℤ → ℕ
 word_of w (pos n) = n % 2 ^ bits_of w
 word_of w (negsuc n) = 2 ^ bits_of w - suc (n % 2 ^ bits_of w)
 
--- the quotient of a whole number, rounded down
 -- a literal fits a width where it is one of its words, or the signed value of one; its word is then word_of
 abbrev pub Fits : Width → ℤ → Type 0
 Fits w z = ((pos 0 -ℤ pos (2 ^ (bits_of w - 1))) ≤ℤ z) × (z <ℤ pos (2 ^ bits_of w))
 
+-- the quotient of a whole number, rounded down
 abbrev pub floor_div : ℤ → ℕ → ℤ
 floor_div (pos n) d = pos (n / d)
 floor_div (negsuc n) d = negsuc (n / d)

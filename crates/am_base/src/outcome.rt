@@ -43,13 +43,13 @@ pub enum Trap {
     Unreachable,
     /// A call of `abort`.
     Abort,
-    /// More than 512 frames.
+    /// A call beyond `MAX_FRAMES` frames.
     DepthFull,
-    /// More than 32,768 register words in all frames.
+    /// More than `MAX_LIVE_REGISTERS` register words in all frames.
     RegistersFull,
     /// A stack top past the end of memory.
     MemoryFull,
-    /// A byte of output past 65,536 of them.
+    /// A byte of output past the first `MAX_OUTPUT_BYTES`.
     OutputFull,
     /// A port without an answer.
     PortRefused,
