@@ -1,0 +1,6 @@
+pub mod Opens
+pub mod Few
+pub mod Rooms
+pub mod Items
+pub mod Turns
+pub mod Modules
