@@ -1,0 +1,5 @@
+pub mod Labels
+pub mod Breaks
+pub mod Shapes
+pub mod Places
+pub mod Prepared
