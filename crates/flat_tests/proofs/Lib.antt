@@ -1,0 +1,2 @@
+mod RowsFit
+mod Tables

@@ -1,0 +1,20 @@
+use Rattle.std.proofs.Common.{[], refl, subst, sym, lit<, lit≤}
+use Rattle.std.specs.List.{All}
+use Rattle.code_form.specs.Fit.{FitsCase, FitsPlace}
+use Rattle.flat_tests.specs.Codes.{shifted, shifted_rows}
+use Rattle.flat_tests.proofs.RowsFit.{all_fit}
+use Rattle.plain_tests.proofs.Fits.{code_sound, no_ports, case_fits}
+use Rattle.flat_tests.proofs.tests.rows.shifts.Goals as goal
+
+pub mutated-requires-clause-fit : goal.mutated-requires-clause-fit
+mutated-requires-clause-fit c = subst (All (λ r. FitsPlace c.in_ok-code.code r.0 r.1)) (sym c.in_ok-rows.ensures) (all_fit shifted c.in_ok-code.code c.in_ok-code.ensures shifted_rows (λ memory bytes. refl, (λ memory bytes. refl, tt)))
+
+pub show-requires-clause-sound : goal.show-requires-clause-sound
+show-requires-clause-sound c = code_sound shifted c.in_ok-code.code c.in_ok-code.ensures (λ memory bytes. refl)
+
+pub show-requires-clause-no_ports : goal.show-requires-clause-no_ports
+show-requires-clause-no_ports c = no_ports shifted c.in_ok-code.code c.in_ok-code.ensures (λ memory. refl)
+
+pub show-requires-clause-case : goal.show-requires-clause-case
+show-requires-clause-case c = subst (FitsCase c.in_ok-code.code) (sym c.in_ok-case.ensures) (case_fits shifted c.in_ok-code.code c.in_ok-code.ensures _
+    (λ memory. record { defined = lit< tt; args = (lit< tt, (c.requires, tt)); input = lit≤ tt; some = lit≤ tt; few = lit≤ tt }))

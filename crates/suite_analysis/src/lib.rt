@@ -1,0 +1,8 @@
+//! All tests of a suite, each analysed with all mutants at once, and the report of them.
+#![tactic(auto)]
+
+mod done;
+mod letters;
+mod suite;
+
+pub use suite::report_of;
