@@ -10,7 +10,7 @@ use am_base::{MAX_FILE_BYTES, ReadFailed, Shelf, read_whole};
 
 /// Reads the file of a name into the front of a buffer of `MAX_FILE_BYTES + 1` bytes, and returns
 /// its length in bytes. It answers `Fault` only where the count of faults of the name rose, and
-/// `TooLong` only where the file has more than `MAX_FILE_BYTES` bytes; such a file is never `Ok`.
+/// `TooLong` iff the file has more than `MAX_FILE_BYTES` bytes.
 pub fn read_file<F: Shelf>(shelf: &mut F, name: &str, buffer: &mut [u8]) -> Result<usize, Stop>
     requires { length buffer.old ≡ MAX_FILE_BYTES + 1 }
     ensures within { IfOk result (λ len. len ≤ MAX_FILE_BYTES) }

@@ -8,15 +8,13 @@ ghost use Rattle.command_plan.specs.Status.{number_of, refused};
 pub enum Status {
     /// The command was carried out, and its whole text was written.
     Done,
-    /// The words are no command, or no picker has the wanted name. Nothing was written.
+    /// The words are no command. Nothing was written.
     Usage,
     /// The module isn't accepted; the line that says so was written.
     ModuleRefused,
-    /// The list of mutants isn't accepted, or the wanted mutant isn't in it; the line that says so
-    /// was written.
+    /// The list of mutants isn't accepted; the line that says so was written.
     MutantsRefused,
-    /// The test suite isn't accepted, or the wanted test isn't in it; the line that says so was
-    /// written.
+    /// The test suite isn't accepted; the line that says so was written.
     TestsRefused,
     /// A file could not be read. Nothing was written.
     ReadFault,

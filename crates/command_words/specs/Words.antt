@@ -1,5 +1,5 @@
--- Which words are a command: its name, the names of its files and its numbers by position, whatever they look like, and then options in any order,
--- each at most once.
+-- Which words are a command: its name, then the names of its files, whatever they look like, and its numbers by position, and then options in any
+-- order, each at most once.
 --
 --     run MODULE MUTANTS TESTS          --budget N, --order NAME, --splits
 --     check MODULE
@@ -7,7 +7,7 @@
 --     groups MODULE MUTANTS TESTS T N   --budget N, --order NAME
 --
 -- No other words are a command. `make` and `load` aren't commands of this program yet.
-use Rattle.std.specs.Prelude.{◌≡◌, ℕ, List, [], ◌∷◌, Bool, true, false, not, ◌&&◌, ◌==◌, nat_le}
+use Rattle.std.specs.Prelude.{◌≡◌, ℕ, ◌≤◌, List, [], ◌∷◌, Bool, true, false, not, ◌&&◌, ◌==◌, nat_le}
 use Rattle.std.specs.Prelude.{if◌then◌else◌, Option, Some, None, codes, length, map, count_by, unwrap_or, String, string_bytes}
 use Rattle.std.specs.Option.{option_map, option_copied}
 use Rattle.std.specs.Str.{bytes_eq}
@@ -165,6 +165,16 @@ abbrev pub groups_of : List Text → Option (Command Text)
 groups_of (first ∷ second ∷ third ∷ test ∷ step ∷ options) =
     groups_with (files_named first second third) (number_in test) (number_in step) (options_in (may_stand true true false) options)
 groups_of _ = None
+
+-- the budget that a command states for the tests that state none
+abbrev pub budget_of : Command Text → Option ℕ
+budget_of (Run files budget order splits) = budget
+budget_of (Check name) = None
+budget_of (Alone files mutant test budget) = budget
+budget_of (Groups files test step budget order) = budget
+
+abbrev pub IsBudget : ℕ → Type 0
+IsBudget n = (1 ≤ n) × (n ≤ MAX_BUDGET)
 
 -- the command that words are
 abbrev pub command_of : List Text → Option (Command Text)

@@ -8,7 +8,7 @@ mod options;
 mod read;
 
 pub use command::{Command, Files, wanted};
-pub use laws::numbers_are_printed;
+pub use laws::{budgets_are_within, numbers_are_printed};
 pub use read::command_of;
 
 #[cfg(test)]

@@ -101,7 +101,7 @@ fn groups_of<'a>(words: &'a [String]) -> Option<Command<&'a str>>
 }
 
 /// Returns the command that the words after the program's name are; `None` iff they are none. No
-/// memory is taken, and beside the words of names and numbers at most five are looked at.
+/// memory is taken.
 ///
 /// | Words | Options |
 /// |---|---|

@@ -1,0 +1,12 @@
+pub mod Listed
+pub mod FilesLemmas
+pub mod AloneLemmas
+pub mod RunLemmas
+pub mod UnmovedLemmas
+pub mod GroupsLemmas
+pub mod Sharp
+pub mod Names
+pub mod OneText
+pub mod OneReport
+pub mod ClassLemmas
+pub mod OneGroups

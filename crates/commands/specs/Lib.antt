@@ -1,0 +1,5 @@
+pub mod Alone
+pub mod Run
+pub mod Groups
+pub mod Files
+pub mod Plans

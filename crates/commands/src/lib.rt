@@ -1,0 +1,17 @@
+//! The commands. Each has a plan, and a function that carries it out.
+#![tactic(auto)]
+
+mod alone;
+mod check;
+mod groups;
+mod laws;
+mod load;
+mod run;
+mod wanted;
+
+pub use alone::alone_found;
+pub use check::check_found;
+pub use groups::groups_found;
+pub use laws::{groups_are_classes, named_plans, one_grouping, one_report, one_run, sharp_plans};
+pub use run::run_found;
+pub use wanted::{Point, Wanted};
