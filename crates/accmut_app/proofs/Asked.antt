@@ -1,26 +1,35 @@
--- The command that four words ask for.
-use Rattle.std.proofs.Common.{◌≡◌, ℕ, ◌<◌, ◌≤◌, Bool, true, false, if◌then◌else◌, List, [], ◌∷◌, length, get_or, Option, Some, None, codes, subst, sym, arith}
-use Rattle.std.proofs.Common.{String, string_bytes, Global}
-use Rattle.std.specs.Str.{bytes_eq}
-use Rattle.accmut_app.specs.Words.{Command, command_of, texts_of, command_named}
+-- Which command the words ask for, from how they were read and whether the picker is there.
+use Rattle.std.proofs.Common.{◌≡◌, ◌↔◌, ℕ, List, Bool, true, false, if◌then◌else◌, Option, Some, None, refl, subst, sym, ap, ◌∙◌}
+use Rattle.am_base.specs.Files.{Files}
+use Rattle.am_base.specs.Text.{Written}
+use Rattle.command_words.specs.Words.{Text, wanted}
+use Rattle.command_words.specs.declared.command.Command.{Command}
+use Rattle.command_plan.specs.declared.status.Status.{Status}
+use Rattle.command_plan.specs.declared.status.Status.TheVariants as status
+use Rattle.command_plan.specs.Plan.{Counts, Plan}
+use Rattle.command_plan.specs.Answer.{IsAnswer}
+use Rattle.accmut_app.specs.Commands.{has_picker, with_picker}
 
-chosen : (b : Bool) (x c : Command) → b ≡ true → (if b then Some x else None) ≡ Some c → x ≡ c
-chosen true x c t h = cc
-chosen false x c t h = absurd (cc)
+same_if : (b : Bool) (c k : Command Text) → (if b then Some c else None) ≡ Some k → c ≡ k
+same_if true c k e = cc e
+same_if false c k e = absurd (cc e)
 
-pub asked : (words : List (String Global)) (name first second third : String Global) → 4 ≤ length words → length words < 5
-    → name ≡ get_or words 0 name → first ≡ get_or words 1 first → second ≡ get_or words 2 second → third ≡ get_or words 3 third
-    → bytes_eq (string_bytes name) (codes "run") ≡ true → (c : Command) → command_of (texts_of words) ≡ Some c
-    → command_named (string_bytes first) (string_bytes second) (string_bytes third) ≡ c
-asked [] name first second third least most n f s t run c h = absurd (omega (arith, least))
-asked (v ∷ []) name first second third least most n f s t run c h = absurd (omega (arith, least))
-asked (v ∷ w ∷ []) name first second third least most n f s t run c h = absurd (omega (arith, least))
-asked (v ∷ w ∷ x ∷ []) name first second third least most n f s t run c h = absurd (omega (arith, least))
-asked (v ∷ w ∷ x ∷ y ∷ []) name first second third least most n f s t run c h =
-    let is_run : bytes_eq (string_bytes v) (codes "run") ≡ true = subst (λ z. bytes_eq (string_bytes z) (codes "run") ≡ true) n run in
-    let whole : command_named (string_bytes w) (string_bytes x) (string_bytes y) ≡ c =
-    chosen (bytes_eq (string_bytes v) (codes "run")) (command_named (string_bytes w) (string_bytes x) (string_bytes y)) c is_run h in
-    subst (λ z. command_named (string_bytes z) (string_bytes second) (string_bytes third) ≡ c) (sym f)
-    (subst (λ z. command_named (string_bytes w) (string_bytes z) (string_bytes third) ≡ c) (sym s)
-    (subst (λ z. command_named (string_bytes w) (string_bytes x) (string_bytes z) ≡ c) (sym t) whole))
-asked (v ∷ w ∷ x ∷ y ∷ z ∷ more) name first second third least most n f s t run c h = absurd (omega (arith, most))
+module _ (names : List Text) (o : Option (Command Text)) where
+  -- the words are this command, and so they ask for no other
+  pub same_command : (c k : Command Text) → Some c ≡ o → with_picker names o ≡ Some k → c ≡ k
+  same_command c k is e = same_if (has_picker names (wanted c)) c k (ap (with_picker names) is ∙ e)
+
+  -- its picker is there
+  pub asked : (c : Command Text) → Some c ≡ o → has_picker names (wanted c) ≡ true → with_picker names o ≡ Some c
+  asked c is there = sym (ap (with_picker names) is) ∙ ap (λ b. if b then Some c else None) there
+
+  -- or it isn't
+  pub unasked : (c : Command Text) → Some c ≡ o → has_picker names (wanted c) ≡ false → with_picker names o ≡ None
+  unasked c is missing = sym (ap (with_picker names) is) ∙ ap (λ b. if b then Some c else None) missing
+
+  -- a command that is carried out is no wrong use
+  pub no_usage : (files : Files) (Faulty : List ℕ → Type 0) (plan : Plan) (old new : Counts) (before after : Written) (SinkRose : Type 0) (s : Status)
+      (c : Command Text) → IsAnswer files Faulty plan old new before after SinkRose s → with_picker names o ≡ Some c
+      → (s ≡ status.Usage) ↔ (with_picker names o ≡ None)
+  no_usage files Faulty plan old new before after SinkRose s c h some =
+      (λ e. absurd (subst (IsAnswer files Faulty plan old new before after SinkRose) e h), λ none. absurd (cc (some, none)))

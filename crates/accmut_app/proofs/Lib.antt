@@ -1,13 +1,4 @@
-pub mod NarrowValues
-pub mod NarrowSteps
-pub mod NarrowLists
-pub mod NarrowLine
-pub mod NarrowSound
-pub mod NarrowLines
-pub mod NarrowTable
-pub mod NarrowRows
-pub mod NarrowTests
-pub mod VerdictLemmas
-pub mod AnswerLemmas
-pub mod Completeness
-pub mod Asked
+mod Asked
+mod Due
+mod FoundAnswers
+mod Picked

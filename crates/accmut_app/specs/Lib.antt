@@ -1,11 +1,1 @@
-pub mod Status
-pub mod Words
-pub mod Verdicts
-pub mod Runnable
-pub mod Answer
-pub mod NarrowForm
-pub mod NarrowText
-pub mod NarrowReads
-pub mod NarrowModule
-pub mod NarrowList
-pub mod NarrowSuite
+pub mod Commands

@@ -1,15 +1,15 @@
 //! The top call: what the words of a command ask for, carried out and written.
 #![tactic(auto)]
 
-mod command;
-mod letters;
-mod load;
-mod narrow;
-mod report;
-mod status;
+mod call;
+mod carried;
+mod own_ports;
+mod picking;
+mod top;
+mod written;
 
-pub use command::accmut;
-pub use status::Status;
+pub use command_plan::Status;
+pub use top::accmut;
 
 #[cfg(test)]
 mod tests;

@@ -1,0 +1,12 @@
+//! The program as a library: files, standard output and standard error round the top call. A
+//! program is a `main` of one line over it, so that there can be one for each stored run.
+#![tactic(auto)]
+
+mod adapters;
+mod meaning;
+mod program;
+
+pub use program::run_program;
+
+#[cfg(test)]
+mod tests;

@@ -1,0 +1,59 @@
+//! What the program does with the words that it is given.
+
+use crate::adapters::{FileShelf, StdoutSink};
+use crate::meaning::meaning;
+use accmut_app::{Status, accmut};
+use am_base::OutOfMemory;
+use exec_core::Meter;
+use picker::{BreadthFirst, DepthFirst, Picker, SmallestFirst};
+use ports::{Abs, IsDigit, IsSpace, Labs, Port};
+use std::env;
+use std::process::ExitCode;
+use std::rt::{Env, Files};
+
+/// The words after the program's name.
+fn words<R: Env + AllocGlobal>(rt: &R) -> Result<Vec<String>, OutOfMemory> {
+    let Ok(args) = env::args(rt) else {
+        return Err(OutOfMemory);
+    };
+    Ok(args.skip(1).collect(rt.alloc())?)
+}
+
+/// Carries out what the words after the program's name ask for, with the pickers `depth`, `breadth`
+/// and `smallest`, and the ports `abs`, `labs`, `isdigit` and `isspace`.
+fn run<R: Env + Files + Print + AllocGlobal>(rt: &R) -> Result<Status, OutOfMemory> {
+    let alloc = rt.alloc();
+    let words = words(rt)?;
+    let mut shelf = FileShelf::new(rt);
+    let mut sink = StdoutSink::new(rt);
+    let depth: Box<dyn Picker> = Box::new(alloc, DepthFirst::new())?;
+    let breadth: Box<dyn Picker> = Box::new(alloc, BreadthFirst::new())?;
+    let smallest: Box<dyn Picker> = Box::new(alloc, SmallestFirst::new())?;
+    let pickers = vec![in alloc; depth, breadth, smallest]?;
+    let abs: Box<dyn Port> = Box::new(alloc, Abs::new(alloc)?)?;
+    let labs: Box<dyn Port> = Box::new(alloc, Labs::new(alloc)?)?;
+    let is_digit: Box<dyn Port> = Box::new(alloc, IsDigit::new(alloc)?)?;
+    let is_space: Box<dyn Port> = Box::new(alloc, IsSpace::new(alloc)?)?;
+    let mut ports = vec![in alloc; abs, labs, is_digit, is_space]?;
+    let mut meter = Meter::new();
+    Ok(accmut(
+        alloc,
+        words.as_slice(),
+        &mut shelf,
+        &mut sink,
+        pickers,
+        &mut ports,
+        &mut meter,
+    ))
+}
+
+/// Carries out what the words after the program's name ask for, and returns the number of the
+/// status as the exit status. What a status other than 0 means is told on standard error in one
+/// line. Want of memory for what is made here is status 7.
+pub fn run_program<R: Env + Files + Print + Eprint + AllocGlobal>(rt: &R) -> ExitCode {
+    let status = run(rt).unwrap_or(Status::OutOfMemory);
+    if let Some(line) = meaning(status) {
+        let _ = eprintln!(rt; "accmut: {line}");
+    }
+    ExitCode::from(status.number())
+}
