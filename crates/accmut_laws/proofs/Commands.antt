@@ -1,5 +1,5 @@
 -- The plan of each command has one text.
-use Rattle.std.proofs.Common.{◌≡◌, ℕ, List, Option, None, sym, ◌∙◌}
+use Rattle.std.proofs.Common.{◌≡◌, ℕ, List, Option, Some, sym, ◌∙◌}
 use Rattle.code_form.specs.declared.sign.PortSign.{PortSign}
 use Rattle.ports.specs.Asks.{answers_in}
 use Rattle.refused_lines.specs.Refusals.{no_mutant_line, no_test_line}
@@ -8,9 +8,9 @@ use Rattle.command_words.specs.Words.{Text}
 use Rattle.command_words.specs.declared.command.Command.{Command}
 use Rattle.command_words.specs.declared.command.Command.TheVariants.{Run, Check, Alone, Groups}
 use Rattle.command_plan.specs.declared.status.Input.TheVariants as input
-use Rattle.command_plan.specs.Ends.{Text as Whole}
+use Rattle.command_plan.specs.Ends.{Ends, Text as Whole}
 use Rattle.command_plan.specs.Plan.{Counts, Plan, Want, Write}
-use Rattle.command_plan.specs.Sharp.{IsSharp, IsDueEnd}
+use Rattle.command_plan.specs.Sharp.{IsSharp}
 use Rattle.commands.specs.Alone.{IsRunText, IsRunRise, mutant_numbered, test_numbered}
 use Rattle.commands.specs.Groups.{AreGroups, IsGroupsRise}
 use Rattle.commands.proofs.Sharp.{check_sharp, run_sharp, alone_sharp, groups_sharp}
@@ -47,8 +47,7 @@ module _ (signs : List PortSign) (answers : List (List ℕ → Option ℕ)) wher
       single_want input.Tests (no_test_line test) Test (test_numbered suite.tests test) write
       (λ t. (groups.groups-one m.code all A step t, groups.rise-one m.code all A step t))
 
-  pub one_done : (c : Command Text) (held : List ℕ → Option (List ℕ)) (t u : List ℕ) (a b : Counts)
-      → IsDueEnd held (plan_of signs answers c) (Whole t a) → IsDueEnd held (plan_of signs answers c) (Whole u b) → (t ≡ u) × (a ≡ b)
-  one_done c held t u a b h k =
-      let missing : List ℕ → Type 0 = (λ name. held name ≡ None) in
-      one_whole held missing missing (plan_of signs answers c) (plan_sharp c) (plan_single c) t u a b h k
+  pub one_done : (c : Command Text) (held : List ℕ → Option (List ℕ)) (Faulty Also : List ℕ → Type 0) (t u : List ℕ) (a b : Counts)
+      → Ends (Some held) Faulty (plan_of signs answers c) (Whole t a) → Ends (Some held) Also (plan_of signs answers c) (Whole u b)
+      → (t ≡ u) × (a ≡ b)
+  one_done c held Faulty Also t u a b h k = one_whole held Faulty Also (plan_of signs answers c) (plan_sharp c) (plan_single c) t u a b h k

@@ -1,8 +1,11 @@
+use Rattle.am_base.specs.Cause.{Rose}
 use Rattle.accmut_laws.proofs.Commands.{one_done}
 use Rattle.accmut_laws.proofs.laws.one_text.Goals as goal
 
 pub returns-clause-text : goal.returns-clause-text
-returns-clause-text p signs answers c held text other counts rise h k = (one_done signs answers c held text other counts rise h k).0
+returns-clause-text p signs answers c held old new again later text other counts rise h k =
+    (one_done signs answers c held (λ name. Rose (old name) (new name)) (λ name. Rose (again name) (later name)) text other counts rise h k).0
 
 pub returns-clause-rise : goal.returns-clause-rise
-returns-clause-rise p signs answers c held text other counts rise h k = (one_done signs answers c held text other counts rise h k).1
+returns-clause-rise p signs answers c held old new again later text other counts rise h k =
+    (one_done signs answers c held (λ name. Rose (old name) (new name)) (λ name. Rose (again name) (later name)) text other counts rise h k).1
