@@ -3,7 +3,7 @@
 use accmut_app::accmut;
 use am_base::{MemoryShelf, MemorySink, OutOfMemory};
 use exec_core::Meter;
-use picker::{Offer, Picker};
+use picker::{DepthFirst, Offer, Picker};
 use ports::Port;
 use std::alloc::{AllocError, Global};
 use std::cell::Cell;
@@ -76,7 +76,7 @@ fn shelf_of(alloc: Global, files: &[(&str, &str)]) -> Result<MemoryShelf, AllocE
     Ok(MemoryShelf::new(held, Vec::new(alloc)))
 }
 
-/// The number after `run` over the three files.
+/// The number after `run` over the three files, where a picker of another name stands first.
 fn number_after(alloc: Global) -> Result<u64, OutOfMemory> {
     let number = Rc::new(alloc, Cell::new(0u64))?;
     let told: Box<dyn Picker> = Box::new(
@@ -85,6 +85,7 @@ fn number_after(alloc: Global) -> Result<u64, OutOfMemory> {
             number: number.clone()?,
         },
     )?;
+    let depth: Box<dyn Picker> = Box::new(alloc, DepthFirst::new())?;
     let words = words_of(alloc, &["run", "m", "l", "t", "--order", "told"])?;
     let files = [("m", MODULE), ("l", LIST), ("t", SUITE)];
     let mut shelf = shelf_of(alloc, &files)?;
@@ -96,7 +97,7 @@ fn number_after(alloc: Global) -> Result<u64, OutOfMemory> {
         words.as_slice(),
         &mut shelf,
         &mut sink,
-        vec![in alloc; told]?,
+        vec![in alloc; depth, told]?,
         &mut ports,
         &mut meter,
     );
