@@ -20,7 +20,7 @@ use Rattle.commands.proofs.Names.{check_named, run_named, alone_named, groups_na
 use Rattle.accmut_app.specs.Commands.{plan_of, names_of, steps_of}
 
 module _ (signs : List PortSign) (answers : List (List ℕ → Option ℕ)) where
-  plan_sharp : (c : Command Text) → IsSharp (plan_of signs answers c)
+  pub plan_sharp : (c : Command Text) → IsSharp (plan_of signs answers c)
   plan_sharp (Check name) = check_sharp signs name
   plan_sharp (Run files budget order splits) =
       run_sharp signs (answers_in answers) (steps_of budget) files.module files.mutants files.tests splits
@@ -29,7 +29,7 @@ module _ (signs : List PortSign) (answers : List (List ℕ → Option ℕ)) wher
   plan_sharp (Groups files test step budget order) =
       groups_sharp signs (answers_in answers) (steps_of budget) files.module files.mutants files.tests (record { test = test; step = step })
 
-  plan_named : (c : Command Text) → AreNames (names_of c) (plan_of signs answers c)
+  pub plan_named : (c : Command Text) → AreNames (names_of c) (plan_of signs answers c)
   plan_named (Check name) = check_named signs name
   plan_named (Run files budget order splits) =
       run_named signs (answers_in answers) (steps_of budget) files.module files.mutants files.tests splits

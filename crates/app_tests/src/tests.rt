@@ -1,5 +1,6 @@
 //! A command over files in memory, with the pickers and the ports of the program.
 
+mod long;
 mod order;
 mod rows;
 mod rules;
@@ -39,6 +40,41 @@ fn shelf_of(
     Ok(MemoryShelf::new(held, Vec::from_slice(alloc, failing)?))
 }
 
+/// What words answer and write over these files, where the calls of the shelf with these numbers
+/// fail, and the sink has room for some bytes and fails after a number of them.
+pub fn answered(
+    alloc: Global,
+    words: &[&str],
+    files: &[(&str, &str)],
+    failing: &[u64],
+    room: usize,
+    fail_after: Option<u64>,
+) -> Result<(Status, Vec<u8>), Fail> {
+    let words = words_of(alloc, words)?;
+    let mut shelf = shelf_of(alloc, files, failing)?;
+    let mut sink = MemorySink::new(alloc, room, fail_after)?;
+    let depth: Box<dyn Picker> = Box::new(alloc, DepthFirst::new())?;
+    let breadth: Box<dyn Picker> = Box::new(alloc, BreadthFirst::new())?;
+    let smallest: Box<dyn Picker> = Box::new(alloc, SmallestFirst::new())?;
+    let pickers = vec![in alloc; depth, breadth, smallest]?;
+    let abs: Box<dyn Port> = Box::new(alloc, Abs::new(alloc)?)?;
+    let labs: Box<dyn Port> = Box::new(alloc, Labs::new(alloc)?)?;
+    let is_digit: Box<dyn Port> = Box::new(alloc, IsDigit::new(alloc)?)?;
+    let is_space: Box<dyn Port> = Box::new(alloc, IsSpace::new(alloc)?)?;
+    let mut ports = vec![in alloc; abs, labs, is_digit, is_space]?;
+    let mut meter = Meter::new();
+    let status = accmut(
+        alloc,
+        words.as_slice(),
+        &mut shelf,
+        &mut sink,
+        pickers,
+        &mut ports,
+        &mut meter,
+    );
+    Ok((status, Vec::from_slice(alloc, sink.written())?))
+}
+
 /// Compares what words answer and write over these files, where the calls of the shelf with these
 /// numbers fail and the sink fails after a number of bytes.
 pub fn expect(
@@ -51,30 +87,9 @@ pub fn expect(
     status: Status,
     text: &str,
 ) -> Result<(), Fail> {
-    let words = words_of(alloc, words)?;
-    let mut shelf = shelf_of(alloc, files, failing)?;
-    let mut sink = MemorySink::new(alloc, ROOM, fail_after)?;
-    let depth: Box<dyn Picker> = Box::new(alloc, DepthFirst::new())?;
-    let breadth: Box<dyn Picker> = Box::new(alloc, BreadthFirst::new())?;
-    let smallest: Box<dyn Picker> = Box::new(alloc, SmallestFirst::new())?;
-    let pickers = vec![in alloc; depth, breadth, smallest]?;
-    let abs: Box<dyn Port> = Box::new(alloc, Abs::new(alloc)?)?;
-    let labs: Box<dyn Port> = Box::new(alloc, Labs::new(alloc)?)?;
-    let is_digit: Box<dyn Port> = Box::new(alloc, IsDigit::new(alloc)?)?;
-    let is_space: Box<dyn Port> = Box::new(alloc, IsSpace::new(alloc)?)?;
-    let mut ports = vec![in alloc; abs, labs, is_digit, is_space]?;
-    let mut meter = Meter::new();
-    let answered = accmut(
-        alloc,
-        words.as_slice(),
-        &mut shelf,
-        &mut sink,
-        pickers,
-        &mut ports,
-        &mut meter,
-    );
-    assert_eq!(rt; answered, status, "for {text:?}");
-    assert_eq!(rt; sink.written(), text.as_bytes(), "at {status:?}");
+    let (found, written) = answered(alloc, words, files, failing, ROOM, fail_after)?;
+    assert_eq!(rt; found, status, "for {text:?}");
+    assert_eq!(rt; written.as_slice(), text.as_bytes(), "at {status:?}");
     Ok(())
 }
 

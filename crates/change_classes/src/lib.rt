@@ -2,5 +2,7 @@
 #![tactic(auto)]
 
 mod first;
+mod keyed;
 
 pub use first::classes_by;
+pub use keyed::classes_keyed;

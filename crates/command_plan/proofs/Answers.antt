@@ -1,5 +1,5 @@
 -- From what was found and how it was written to the table of answers.
-use Rattle.std.proofs.Common.{◌≡◌, ℕ, List, Option, Some, None, Result, Ok, Err, refl, subst, sym}
+use Rattle.std.proofs.Common.{ℕ, List, Result, Ok, Err, subst, sym}
 use Rattle.am_base.specs.Files.{Files}
 use Rattle.am_base.specs.Text.{Written}
 use Rattle.command_plan.specs.declared.status.Input.{Input}
@@ -10,8 +10,8 @@ use Rattle.command_plan.specs.declared.stop.Stop.{Stop}
 use Rattle.command_plan.specs.declared.stop.Stop.TheVariants as stop
 use Rattle.command_plan.specs.Status.{refused}
 use Rattle.command_plan.specs.Plan.{Counts, Plan}
-use Rattle.command_plan.specs.Ends.{End, Ends, Text, Refused}
-use Rattle.command_plan.specs.Answer.{Found, Stay, RiseBy, IsAnswer, IsRefused, IsCutOff, WritesText, WritesFound}
+use Rattle.command_plan.specs.Ends.{Ends, Text, Refused}
+use Rattle.command_plan.specs.Answer.{Found, Stay, RiseBy, IsAnswer, IsCutOff, WritesText, WritesFound}
 
 module _ (files : Files) (Faulty : List ℕ → Type 0) (plan : Plan) (old new : Counts) (before after : Written) (SinkRose : Type 0) where
   text_answer : (text : List ℕ) (counts : Counts) (s : Status) → Ends files Faulty plan (Text text counts) → RiseBy old new counts
@@ -32,4 +32,5 @@ module _ (files : Files) (Faulty : List ℕ → Type 0) (plan : Plan) (old new :
   answer (Err (stop.Refused i line)) s h w = line_answer i line s h.0 h.1 w
   answer (Err stop.Fault) s h w = subst (IsAnswer files Faulty plan old new before after SinkRose) (sym w.0) (h.0, h.1, w.1)
   answer (Err stop.TooLong) s h w = subst (IsAnswer files Faulty plan old new before after SinkRose) (sym w.0) (h.0, h.1, w.1)
+  answer (Err stop.TooMany) s h w = subst (IsAnswer files Faulty plan old new before after SinkRose) (sym w.0) (h.0, h.1, w.1)
   answer (Err stop.OutOfMemory) s h w = subst (IsAnswer files Faulty plan old new before after SinkRose) (sym w.0) (h, w.1)

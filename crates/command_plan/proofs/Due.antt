@@ -1,5 +1,5 @@
 -- The answer is the one that the bytes of the files ask for.
-use Rattle.std.proofs.Common.{◌≡◌, ◌⊎◌, ℕ, List, Option, Some, None, refl, subst, sym, ap, inl, inr}
+use Rattle.std.proofs.Common.{◌≡◌, ◌⊎◌, ℕ, List, true, false, Option, Some, None, refl, ap, inl, inr}
 use Rattle.std.specs.List.{Contains}
 use Rattle.am_base.specs.Files.{Files}
 use Rattle.am_base.specs.Text.{Written}
@@ -8,8 +8,8 @@ use Rattle.command_plan.specs.declared.status.Input.TheVariants as input
 use Rattle.command_plan.specs.declared.status.Status.{Status}
 use Rattle.command_plan.specs.declared.status.Status.TheVariants as status
 use Rattle.command_plan.specs.Status.{refused}
-use Rattle.command_plan.specs.Plan.{Counts, Plan, Read, Want, Write}
-use Rattle.command_plan.specs.Ends.{End, Ends, StopsAt, Accepted, Text, Refused, Long, Fault, status_of}
+use Rattle.command_plan.specs.Plan.{Counts, Plan, Read, Want, Bound, Write}
+use Rattle.command_plan.specs.Ends.{End, Ends, StopsAt, Accepted, Text, Refused, Long, Fault, Many, status_of}
 use Rattle.command_plan.specs.Answer.{IsAnswer}
 use Rattle.command_plan.specs.Sharp.{IsSharp, IsSameEnd, IsDueEnd, AreNames}
 use Rattle.command_plan.proofs.OneEnd.{one_end}
@@ -25,6 +25,7 @@ stop_named files Faulty names name input refuses (Text text counts) has h = h
 stop_named files Faulty names name input refuses (Refused other line) has h = h
 stop_named files Faulty names name input refuses Long has h = h
 stop_named files Faulty names name input refuses Fault has h = (has, h)
+stop_named files Faulty names name input refuses Many has h = h
 
 -- only a file of the plan is a fault of it
 pub ends_named : (files : Files) (Faulty : List ℕ → Type 0) (names : List (List ℕ)) (plan : Plan) (end : End) → AreNames names plan
@@ -35,6 +36,8 @@ ends_named files Faulty names (Read name input refuses A accepts next) end has (
     inr (h.0, h.1, ends_named files Faulty names (next h.0) end (has.1 h.0) h.2)
 ends_named files Faulty names (Want input line A None next) end has h = h
 ends_named files Faulty names (Want input line A (Some x) next) end has h = ends_named files Faulty names (next x) end has h
+ends_named files Faulty names (Bound false next) end has h = h
+ends_named files Faulty names (Bound true next) end has h = ends_named files Faulty names next end has h
 ends_named files Faulty names (Write due rise) end has h = h
 
 same_status : (end other : End) → IsSameEnd end other → status_of end ≡ status_of other
@@ -45,6 +48,7 @@ same_status (Text t c) (Text u d) h = refl
 same_status (Refused i line) (Refused j words) h = ap refused h.0
 same_status Long Long h = refl
 same_status Fault Fault h = refl
+same_status Many Many h = refl
 same_status _ _ h = absurd h
 
 module _ (held : List ℕ → Option (List ℕ)) (Faulty : List ℕ → Type 0) (names : List (List ℕ)) (plan : Plan) (old new : Counts) (before after : Written)
@@ -64,4 +68,4 @@ module _ (held : List ℕ → Option (List ℕ)) (Faulty : List ℕ → Type 0) 
   due status.WriteFault h = absurd (still h.0)
   due status.OutOfMemory h = inr refl
   due status.Usage h = absurd h
-  due status.TooMany h = absurd h
+  due status.TooMany h = inl (ended Many h.0)

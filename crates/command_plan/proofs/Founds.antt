@@ -1,12 +1,12 @@
 -- What was found of a plan, from what was found of its first file and of the rest.
-use Rattle.std.proofs.Common.{◌≡◌, ℕ, ◌+◌, List, Option, Some, None, Result, Ok, Err, IfOk, IfErr, ap, refl, subst, sym, inl, inr, arith}
+use Rattle.std.proofs.Common.{Bool, ◌≡◌, ℕ, List, true, false, Option, Some, None, Result, Ok, Err, IfOk, IfErr, ap, refl, subst, sym, inl, inr, arith}
 use Rattle.am_base.specs.Files.{Files}
 use Rattle.command_plan.specs.declared.status.Input.{Input}
 use Rattle.command_plan.specs.declared.stop.Stop.{Stop}
 use Rattle.command_plan.specs.declared.stop.Stop.TheVariants as stop
-use Rattle.command_plan.specs.Plan.{Counts, no_counts, Plan, Read, Want, Write, Reads}
-use Rattle.command_plan.specs.Ends.{End, Ends, StopsAt, Comes, Accepted, Text, Refused, Long, Fault}
-use Rattle.command_plan.specs.Answer.{Found, RunsOut, Fails, IsNotRead, Says, refusal, Stay, RiseBy, RiseWithin}
+use Rattle.command_plan.specs.Plan.{Counts, no_counts, Plan, Read, Want, Bound, Write, Reads}
+use Rattle.command_plan.specs.Ends.{End, Ends, StopsAt, Accepted, Text, Refused, Long, Fault, Many}
+use Rattle.command_plan.specs.Answer.{Found, RunsOut, Fails, IsNotRead, Says, refusal, Stay, RiseBy}
 
 -- nothing rose
 pub stay : (counts : Counts) → Stay counts counts
@@ -28,6 +28,7 @@ found_by files mid Faulty Later plan rest old new to (Ok text) h = (h.0, to (Tex
 found_by files mid Faulty Later plan rest old new to (Err (stop.Refused input line)) h = (to (Refused input line) h.0, h.1)
 found_by files mid Faulty Later plan rest old new to (Err stop.TooLong) h = (to Long h.0, h.1)
 found_by files mid Faulty Later plan rest old new to (Err stop.Fault) h = (to Fault h.0, h.1)
+found_by files mid Faulty Later plan rest old new to (Err stop.TooMany) h = (to Many h.0, h.1)
 found_by files mid Faulty Later plan rest old new to (Err stop.OutOfMemory) (RunsOut.on_the_way h) = RunsOut.on_the_way h
 found_by files mid Faulty Later plan rest old new to (Err stop.OutOfMemory) (RunsOut.behind counts h rise) = RunsOut.behind counts (to (Accepted counts) h) rise
 
@@ -40,6 +41,7 @@ stops_later files Faulty Later to name input refuses (Text text counts) h = h
 stops_later files Faulty Later to name input refuses (Refused other line) h = h
 stops_later files Faulty Later to name input refuses Long h = h
 stops_later files Faulty Later to name input refuses Fault h = to name h
+stops_later files Faulty Later to name input refuses Many h = h
 
 pub ends_later : (files : Files) (Faulty Later : List ℕ → Type 0) → ((name : List ℕ) → Later name → Faulty name) → (plan : Plan) (end : End)
     → Ends files Later plan end → Ends files Faulty plan end
@@ -48,6 +50,8 @@ ends_later files Faulty Later to (Read name input refuses A accepts next) end (i
     inr (h.0, h.1, ends_later files Faulty Later to (next h.0) end h.2)
 ends_later files Faulty Later to (Want input line A None next) end h = h
 ends_later files Faulty Later to (Want input line A (Some x) next) end h = ends_later files Faulty Later to (next x) end h
+ends_later files Faulty Later to (Bound false next) end h = h
+ends_later files Faulty Later to (Bound true next) end h = ends_later files Faulty Later to next end h
 ends_later files Faulty Later to (Write due rise) end h = h
 
 -- ---- steps of a plan
@@ -68,6 +72,7 @@ pub fails_found : (files : Files) (Faulty : List ℕ → Type 0) (name : List �
 fails_found files Faulty name input refuses A accepts next old new (stop.Refused other line) stays h = (inl h, stays)
 fails_found files Faulty name input refuses A accepts next old new stop.Fault stays h = (inl h, stays)
 fails_found files Faulty name input refuses A accepts next old new stop.TooLong stays h = (inl h, stays)
+fails_found files Faulty name input refuses A accepts next old new stop.TooMany stays h = absurd h
 fails_found files Faulty name input refuses A accepts next old new stop.OutOfMemory stays h = RunsOut.on_the_way stays
 
 -- ---- one file
@@ -77,6 +82,7 @@ pub read_fails : (files : Files) (name : List ℕ) (rose : Type 0) (input : Inpu
 read_fails files name rose input refuses stop.Fault h = h
 read_fails files name rose input refuses stop.TooLong h = h
 read_fails files name rose input refuses (stop.Refused other line) h = absurd h
+read_fails files name rose input refuses stop.TooMany h = absurd h
 read_fails files name rose input refuses stop.OutOfMemory h = absurd h
 
 pub reads_as : (files : Files) (name text : List ℕ) (Is : List ℕ → Type 0) → Reads files name (λ file. text ≡ file) → Is text → Reads files name Is
@@ -88,6 +94,7 @@ says_fails files name text rose input refuses (stop.Refused other line) r h = (h
 says_fails files name text rose input refuses stop.OutOfMemory r h = tt
 says_fails files name text rose input refuses stop.Fault r h = absurd h
 says_fails files name text rose input refuses stop.TooLong r h = absurd h
+says_fails files name text rose input refuses stop.TooMany r h = absurd h
 
 pub says_fails_err : {X : Type 0} (files : Files) (name text : List ℕ) (rose : Type 0) (input : Input) (refuses : List ℕ → List ℕ → Type 0)
     (r : Result X Stop) → Reads files name (λ file. text ≡ file) → IfErr r (Says input (refuses text)) → IfErr r (Fails files name rose input refuses)
@@ -117,3 +124,18 @@ pub wanted_found : (files : Files) (Faulty : List ℕ → Type 0) (input : Input
 wanted_found files Faulty input line A wanted x next old new r e h =
     subst (λ w. Found files Faulty (Want input line A w next) old new r) (sym e)
     (found_by files files Faulty Faulty (Want input line A (Some x) next) (next x) old new (λ end ends. ends) r h)
+
+-- ---- a bound on what is due
+
+-- it is kept
+pub within_found : (files : Files) (Faulty : List ℕ → Type 0) (within : Bool) (next : Plan) (old new : Counts) (r : Result (List ℕ) Stop)
+    → within ≡ true → Found files Faulty next old new r → Found files Faulty (Bound within next) old new r
+within_found files Faulty within next old new r e h =
+    subst (λ w. Found files Faulty (Bound w next) old new r) (sym e)
+    (found_by files files Faulty Faulty (Bound true next) next old new (λ end ends. ends) r h)
+
+-- it isn't
+pub many_found : (files : Files) (Faulty : List ℕ → Type 0) (within : Bool) (next : Plan) (old new : Counts) → within ≡ false → Stay old new
+    → Found files Faulty (Bound within next) old new (Err stop.TooMany)
+many_found files Faulty within next old new e stays =
+    subst (λ w. Found files Faulty (Bound w next) old new (Err stop.TooMany)) (sym e) (refl, stays)

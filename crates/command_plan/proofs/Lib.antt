@@ -1,4 +1,5 @@
 pub mod Founds
 pub mod Answers
 pub mod OneEnd
+pub mod Agreed
 pub mod Due

@@ -1,10 +1,9 @@
 -- A plan ends in one way over the same files.
-use Rattle.std.proofs.Common.{◌≡◌, ℕ, ◌<◌, ◌≤◌, List, length, Option, Some, None, IsSome, refl, subst, sym, ◌∙◌, inl, inr, arith}
+use Rattle.std.proofs.Common.{◌≡◌, ℕ, ◌≤◌, List, length, true, false, Option, Some, None, IsSome, refl, subst, sym, ◌∙◌, inl, inr, arith}
 use Rattle.am_base.specs.declared.limits.TheConstants.{MAX_FILE_BYTES}
-use Rattle.am_base.specs.Files.{Files}
 use Rattle.command_plan.specs.declared.status.Input.{Input}
-use Rattle.command_plan.specs.Plan.{Counts, Plan, Read, Want, Write, Reads, IsTooLong}
-use Rattle.command_plan.specs.Ends.{End, Ends, StopsAt, Comes, Accepted, Text, Refused, Long, Fault}
+use Rattle.command_plan.specs.Plan.{Counts, Plan, Read, Want, Bound, Write, Reads, IsTooLong}
+use Rattle.command_plan.specs.Ends.{End, Ends, StopsAt, Comes, Accepted, Text, Refused, Long, Fault, Many}
 use Rattle.command_plan.specs.Sharp.{IsSharp, IsSameEnd}
 
 abbrev Held : Type 0
@@ -47,17 +46,21 @@ module _ (held : Held) (Faulty Also : List ℕ → Type 0) (missing : (name : Li
       let same = both held name (λ file. refuses file line) (λ file. refuses file words) h.1 k.1 in
       (h.0 ∙ sym k.0, one same.0 line words same.1 same.2)
   one_stop name input refuses one (Refused i line) Long h k = absurd (not_both held name (λ file. refuses file line) h.1 k)
+  one_stop name input refuses one (Refused i line) Many h k = absurd k
   one_stop name input refuses one (Refused i line) Fault h k = absurd (not_missing held name h.1.held (also_missing name k))
   one_stop name input refuses one Long (Accepted counts) h k = absurd k
   one_stop name input refuses one Long (Text text counts) h k = absurd k
   one_stop name input refuses one Long (Refused j words) h k = absurd (not_both held name (λ file. refuses file words) k.1 h)
   one_stop name input refuses one Long Long h k = tt
+  one_stop name input refuses one Long Many h k = absurd k
   one_stop name input refuses one Long Fault h k = absurd (not_missing held name h.held (also_missing name k))
   one_stop name input refuses one Fault (Accepted counts) h k = absurd k
   one_stop name input refuses one Fault (Text text counts) h k = absurd k
   one_stop name input refuses one Fault (Refused j words) h k = absurd (not_missing held name k.1.held (missing name h))
   one_stop name input refuses one Fault Long h k = absurd (not_missing held name k.held (missing name h))
   one_stop name input refuses one Fault Fault h k = tt
+  one_stop name input refuses one Fault Many h k = absurd k
+  one_stop name input refuses one Many other h k = absurd h
 
   one_coming : (due : List ℕ → Type 0) (rise : Counts → Type 0) (end other : End) → Comes due rise end → Comes due rise other → IsSameEnd end other
   one_coming due rise (Accepted c) (Accepted d) h k = tt
@@ -67,12 +70,15 @@ module _ (held : Held) (Faulty Also : List ℕ → Type 0) (missing : (name : Li
   one_coming due rise (Refused i line) other h k = absurd h
   one_coming due rise Long other h k = absurd h
   one_coming due rise Fault other h k = absurd h
+  one_coming due rise Many other h k = absurd h
   one_coming due rise (Accepted c) (Refused i line) h k = absurd k
   one_coming due rise (Accepted c) Long h k = absurd k
   one_coming due rise (Accepted c) Fault h k = absurd k
+  one_coming due rise (Accepted c) Many h k = absurd k
   one_coming due rise (Text t c) (Refused i line) h k = absurd k
   one_coming due rise (Text t c) Long h k = absurd k
   one_coming due rise (Text t c) Fault h k = absurd k
+  one_coming due rise (Text t c) Many h k = absurd k
 
 -- a file that is accepted stops no plan
 no_stop : (held : Held) (Faulty : List ℕ → Type 0) (missing : (name : List ℕ) → Faulty name → held name ≡ None)
@@ -85,12 +91,19 @@ no_stop held Faulty missing name input refuses A accepts apart (Refused i line) 
     let same = both held name (λ file. refuses file line) (λ file. accepts file x) h.1 reads in
     apart same.0 line x same.1 same.2
 no_stop held Faulty missing name input refuses A accepts apart Long x h reads = not_both held name (λ file. accepts file x) reads h
+no_stop held Faulty missing name input refuses A accepts apart Many x h reads = absurd h
 no_stop held Faulty missing name input refuses A accepts apart Fault x h reads = not_missing held name reads.held (missing name h)
 
 same_end_refl : (input : Input) (line : List ℕ) (end other : End) → end ≡ Refused input line → other ≡ Refused input line → IsSameEnd end other
 same_end_refl input line end other h k =
     let first : IsSameEnd (Refused input line) (Refused input line) = (refl, refl) in
     let second : IsSameEnd end (Refused input line) = subst (λ e. IsSameEnd e (Refused input line)) (sym h) first in
+    subst (λ e. IsSameEnd end e) (sym k) second
+
+same_many : (end other : End) → end ≡ Many → other ≡ Many → IsSameEnd end other
+same_many end other h k =
+    let first : IsSameEnd Many Many = tt in
+    let second : IsSameEnd end Many = subst (λ e. IsSameEnd e Many) (sym h) first in
     subst (λ e. IsSameEnd end e) (sym k) second
 
 pub one_end : (held : Held) (Faulty Also : List ℕ → Type 0) → ((name : List ℕ) → Faulty name → held name ≡ None)
@@ -110,4 +123,7 @@ one_end held Faulty Also missing also (Read name input refuses A accepts next) s
 one_end held Faulty Also missing also (Want input line A None next) sharp end other h k = same_end_refl input line end other h k
 one_end held Faulty Also missing also (Want input line A (Some x) next) sharp end other h k =
     one_end held Faulty Also missing also (next x) sharp end other h k
+one_end held Faulty Also missing also (Bound false next) sharp end other h k = same_many end other h k
+one_end held Faulty Also missing also (Bound true next) sharp end other h k =
+    one_end held Faulty Also missing also next sharp end other h k
 one_end held Faulty Also missing also (Write due rise) sharp end other h k = one_coming held Faulty Also missing also due rise end other h k

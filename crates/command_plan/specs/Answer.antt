@@ -1,5 +1,5 @@
 -- What each answer of a command says.
-use Rattle.std.specs.Prelude.{◌≡◌, ◌⊎◌, ℕ, ◌+◌, ◌≤◌, List, Result, Ok, Err}
+use Rattle.std.specs.Prelude.{◌≡◌, ℕ, ◌+◌, ◌≤◌, List, Result, Ok, Err}
 use Rattle.am_base.specs.Files.{Files}
 use Rattle.am_base.specs.Text.{Written, appended, AppendsProperPrefix}
 use Rattle.command_plan.specs.declared.status.Input.{Input}
@@ -10,7 +10,7 @@ use Rattle.command_plan.specs.declared.stop.Stop.{Stop}
 use Rattle.command_plan.specs.declared.stop.Stop.TheVariants as stop
 use Rattle.command_plan.specs.Status.{refused}
 use Rattle.command_plan.specs.Plan.{Counts, Plan, Reads, IsTooLong}
-use Rattle.command_plan.specs.Ends.{End, Ends, Accepted, Text, Refused, Long, Fault}
+use Rattle.command_plan.specs.Ends.{Ends, Accepted, Text, Refused, Long, Fault, Many}
 
 -- ---- how the counts rise
 
@@ -43,6 +43,7 @@ module _ (files : Files) (Faulty : List ℕ → Type 0) (plan : Plan) (old new :
   Found (Err (stop.Refused input line)) = Ends files Faulty plan (Refused input line) × Stay old new
   Found (Err stop.TooLong) = Ends files Faulty plan Long × Stay old new
   Found (Err stop.Fault) = Ends files Faulty plan Fault × Stay old new
+  Found (Err stop.TooMany) = Ends files Faulty plan Many × Stay old new
   Found (Err stop.OutOfMemory) = RunsOut
 
   -- ---- the table of answers
@@ -81,7 +82,7 @@ module _ (files : Files) (Faulty : List ℕ → Type 0) (plan : Plan) (old new :
     IsAnswer status.WriteFault = SinkRose × IsCutOff
     IsAnswer status.OutOfMemory = RunsOut × (after ≡ before)
     IsAnswer status.Usage = ⊥
-    IsAnswer status.TooMany = ⊥
+    IsAnswer status.TooMany = Ends files Faulty plan Many × Stay old new × (after ≡ before)
 
 -- ---- how a file is not taken
 
@@ -89,6 +90,7 @@ module _ (files : Files) (Faulty : List ℕ → Type 0) (plan : Plan) (old new :
 abbrev pub IsNotRead : Files → List ℕ → Type 0 → Stop → Type 0
 IsNotRead files name rose stop.Fault = rose
 IsNotRead files name rose stop.TooLong = IsTooLong files name
+IsNotRead files name rose stop.TooMany = ⊥
 IsNotRead files name rose (stop.Refused input line) = ⊥
 IsNotRead files name rose stop.OutOfMemory = ⊥
 
@@ -97,6 +99,7 @@ abbrev pub Fails : Files → List ℕ → Type 0 → Input → (List ℕ → Lis
 Fails files name rose input refuses stop.Fault = rose
 Fails files name rose input refuses stop.TooLong = IsTooLong files name
 Fails files name rose input refuses (stop.Refused other line) = (other ≡ input) × Reads files name (λ file. refuses file line)
+Fails files name rose input refuses stop.TooMany = ⊥
 Fails files name rose input refuses stop.OutOfMemory = Unit {0}
 
 -- an input is refused with a line, or memory ran out
@@ -105,6 +108,7 @@ Says input Refuses (stop.Refused other line) = (other ≡ input) × Refuses line
 Says input Refuses stop.OutOfMemory = Unit {0}
 Says input Refuses stop.Fault = ⊥
 Says input Refuses stop.TooLong = ⊥
+Says input Refuses stop.TooMany = ⊥
 
 -- the refusal of an input with a line that was made, unless memory ran out
 abbrev pub refusal : {E : Type 0} → Input → Result (List ℕ) E → Stop
@@ -123,4 +127,5 @@ WritesFound (Ok text) before after SinkRose s = WritesText text before after Sin
 WritesFound (Err (stop.Refused input line)) before after SinkRose s = WritesText line before after SinkRose (refused input) s
 WritesFound (Err stop.TooLong) before after SinkRose s = (s ≡ status.TooLong) × (after ≡ before)
 WritesFound (Err stop.Fault) before after SinkRose s = (s ≡ status.ReadFault) × (after ≡ before)
+WritesFound (Err stop.TooMany) before after SinkRose s = (s ≡ status.TooMany) × (after ≡ before)
 WritesFound (Err stop.OutOfMemory) before after SinkRose s = (s ≡ status.OutOfMemory) × (after ≡ before)

@@ -1,5 +1,5 @@
 -- A command as a plan: the files that it reads, one after the other, the mutants and tests that it wants, and the text that is due.
-use Rattle.std.specs.Prelude.{◌≡◌, ℕ, ◌+◌, ◌≤◌, ◌<◌, List, length, Option}
+use Rattle.std.specs.Prelude.{ℕ, ◌≤◌, ◌<◌, List, length, Bool, Option}
 use Rattle.am_base.specs.declared.limits.TheConstants.{MAX_FILE_BYTES}
 use Rattle.am_base.specs.Files.{Files, Holds, IsHeld}
 use Rattle.command_plan.specs.declared.status.Input.{Input}
@@ -13,11 +13,12 @@ abbrev pub no_counts : Counts
 no_counts = record { steps = 0; asks = λ port. 0 }
 
 -- What a command does. Read: the file of this name is read. It is refused with a line, as this input, or it gives something, and the plan goes on
--- with that. Want: something is looked for in what was read. Where it isn't there, this input is refused with this line. Write: `due` says which text
--- is due, and `rise` by how much the counts rise.
+-- with that. Want: something is looked for in what was read. Where it isn't there, this input is refused with this line. Bound: what is due has at most as
+-- many parts as it may have, and the plan goes on, or it has more. Write: `due` says which text is due, and `rise` by how much the counts rise.
 pub data Plan : Type 1 where
   Read : (name : List ℕ) (input : Input) (refuses : List ℕ → List ℕ → Type 0) (A : Type 0) (accepts : List ℕ → A → Type 0) (next : A → Plan) → Plan
   Want : (input : Input) (line : List ℕ) (A : Type 0) (wanted : Option A) (next : A → Plan) → Plan
+  Bound : (within : Bool) (next : Plan) → Plan
   Write : (due : List ℕ → Type 0) (rise : Counts → Type 0) → Plan
 
 -- ---- files

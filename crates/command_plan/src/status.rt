@@ -26,7 +26,8 @@ pub enum Status {
     /// The first file that isn't accepted has more than `MAX_FILE_BYTES` bytes. Nothing was
     /// written.
     TooLong,
-    /// A list of mutants would have more than `MAX_LISTED_MUTANTS`. No command makes one yet.
+    /// The list that is asked for would have more than `MAX_LISTED_MUTANTS` mutants. Nothing was
+    /// written.
     TooMany,
 }
 

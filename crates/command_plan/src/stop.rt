@@ -16,6 +16,8 @@ pub enum Stop {
     Fault,
     /// A file has more than `MAX_FILE_BYTES` bytes.
     TooLong,
+    /// The list that is asked for would have more than `MAX_LISTED_MUTANTS` records.
+    TooMany,
     /// No memory could be had.
     OutOfMemory,
 }

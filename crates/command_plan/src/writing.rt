@@ -35,6 +35,7 @@ pub fn write_found<K: Sink>(sink: &mut K, found: Result<Bytes, Stop>) -> Status
         Err(Stop::Refused(input, line)) => write_text(sink, line.as_slice(), input.refused()),
         Err(Stop::Fault) => Status::ReadFault,
         Err(Stop::TooLong) => Status::TooLong,
+        Err(Stop::TooMany) => Status::TooMany,
         Err(Stop::OutOfMemory) => Status::OutOfMemory,
     }
 }

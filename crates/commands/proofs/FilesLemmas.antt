@@ -10,7 +10,7 @@ use Rattle.test_suite.specs.declared.suite.Suite.{Suite}
 use Rattle.command_plan.specs.declared.status.Input.TheVariants as input
 use Rattle.command_plan.specs.declared.stop.Stop.{Stop}
 use Rattle.command_plan.specs.Answer.{Found, Fails}
-use Rattle.command_plan.specs.Ends.{End, Ends, Comes, Accepted, Text as Whole, Refused, Long, Fault}
+use Rattle.command_plan.specs.Ends.{End, Ends, Comes, Accepted, Text as Whole, Refused, Long, Fault, Many}
 use Rattle.command_plan.specs.Plan.{Counts, Plan, Write, Reads}
 use Rattle.command_plan.proofs.Founds.{stay, found_by, ends_later, fails_found, next_found}
 use Rattle.command_files.specs.declared.module.Loaded.{Loaded}
@@ -33,6 +33,7 @@ no_end (Whole text counts) h = h.0
 no_end (Refused input line) h = h
 no_end Long h = h
 no_end Fault h = h
+no_end Many h = h
 
 -- nothing follows
 abbrev nothing : Loaded → List Made → Suite → Plan

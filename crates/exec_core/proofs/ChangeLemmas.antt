@@ -44,9 +44,7 @@ module _ {X : Type 0} where
   -- an element is the first that passes where none before it does
   first_there : (p : X → Bool) (seen : List X) (x : X) (xs : List X) → p x ≡ true → (position_or_len p (seen ++ x ∷ xs) == length seen) ≡ not (list_any p seen)
   first_there p [] x xs h = rw h refl
-  first_there p (y ∷ ys) x xs h = on_bool (p y)
-      (λ t. rw t (zero_eqb (length ys)))
-      (λ f. let i = first_there p ys x xs h in
+  first_there p (y ∷ ys) x xs h = on_bool (p y) (λ t. rw t (zero_eqb (length ys))) (λ f. let i = first_there p ys x xs h in
       rw f (rw (one-add (position_or_len p (ys ++ x ∷ xs))) (suc_eqb (position_or_len p (ys ++ x ∷ xs)) (length ys) ∙ i)))
 
   at_end : (seen : List X) (x : X) (xs : List X) → get_or (seen ++ x ∷ xs) (length seen) x ≡ x
@@ -58,10 +56,8 @@ module _ {X : Type 0} where
         → (slice_index (first_equal same all) (length seen) == length seen) ≡ not (list_any (λ y. same y x) seen)
     own_there seen x xs e =
         let l : length seen < length all = (let n = ap length e in let a = length-append seen (x ∷ xs) in omega arith) in
-        ap (λ n. n == length seen)
-        (get_or-map (λ z. position_or_len (λ y. same y z) all) all (length seen) x 0 l
-        ∙ ap (λ z. position_or_len (λ y. same y z) all) (ap (λ zs. get_or zs (length seen) x) e ∙ at_end seen x xs)
-        ∙ ap (position_or_len (λ y. same y x)) e)
+        ap (λ n. n == length seen) (get_or-map (λ z. position_or_len (λ y. same y z) all) all (length seen) x 0 l
+        ∙ ap (λ z. position_or_len (λ y. same y z) all) (ap (λ zs. get_or zs (length seen) x) e ∙ at_end seen x xs) ∙ ap (position_or_len (λ y. same y x)) e)
         ∙ first_there (λ y. same y x) seen x xs (complete x)
 
     pub own_firsts_are : (seen xs : List X) → all ≡ seen ++ xs → own_firsts (first_equal same all) (length seen) xs ≡ news same seen xs
@@ -72,10 +68,7 @@ module _ {X : Type 0} where
         let j : own_firsts (first_equal same all) (length seen + 1) xs ≡ news same (seen ++ x ∷ []) xs =
         (ap (λ k. own_firsts (first_equal same all) k xs) (sym n) ∙ i) in
         ap (λ b. if b then x ∷ own_firsts (first_equal same all) (length seen + 1) xs else own_firsts (first_equal same all) (length seen + 1) xs)
-        (own_there seen x xs e)
-        ∙ on_bool (list_any (λ y. same y x) seen)
-        (λ t. rw t j)
-        (λ f. rw f (ap (λ ys. x ∷ ys) j))
+        (own_there seen x xs e) ∙ on_bool (list_any (λ y. same y x) seen) (λ t. rw t j) (λ f. rw f (ap (λ ys. x ∷ ys) j))
 
 -- in a rising list those before an element are lower, and those from it on are not
 before : (seen : List ℕ) (m : ℕ) (xs : List ℕ) → IsStrictlyIncreasing (seen ++ m ∷ xs) → (k : ℕ) → Contains seen k → k < m
@@ -113,20 +106,17 @@ module _ (E : ℕ → ℕ → Bool) (all : List ℕ) (rising : IsStrictlyIncreas
   lowest_there seen m xs e =
       let r = subst IsStrictlyIncreasing e rising in
       ap not (
-      ap (list_any (λ k. nat_lt k m && E k m)) e
-      ∙ list_any-append (λ k. nat_lt k m && E k m) seen (m ∷ xs)
+      ap (list_any (λ k. nat_lt k m && E k m)) e ∙ list_any-append (λ k. nat_lt k m && E k m) seen (m ∷ xs)
       ∙ ap (λ b. list_any (λ k. nat_lt k m && E k m) seen || b)
       (any_alike (λ k. nat_lt k m && E k m) (λ k. false) (m ∷ xs) (λ k c. ap (λ b. b && E k m) (le-ltb k m (behind seen m xs r k c))) ∙ none_any (m ∷ xs))
-      ∙ or_false _
-      ∙ any_alike (λ k. nat_lt k m && E k m) (λ k. E k m) seen (λ k c. ap (λ b. b && E k m) (lt-ltb k m (before seen m xs r k c))))
+      ∙ or_false _ ∙ any_alike (λ k. nat_lt k m && E k m) (λ k. E k m) seen (λ k c. ap (λ b. b && E k m) (lt-ltb k m (before seen m xs r k c))))
 
   pub filter_news : (seen xs : List ℕ) → all ≡ seen ++ xs → filter lowest xs ≡ news E seen xs
   filter_news seen [] e = refl
   filter_news seen (x ∷ xs) e =
       let i = filter_news (seen ++ x ∷ []) xs (e ∙ sym (append_assoc seen (x ∷ []) xs)) in
       let h = lowest_there seen x xs e in
-      on_bool (list_any (λ k. E k x) seen)
-      (λ t. filter_no lowest x xs (h ∙ ap not t) ∙ i ∙ sym (news_old E seen x xs t))
+      on_bool (list_any (λ k. E k x) seen) (λ t. filter_no lowest x xs (h ∙ ap not t) ∙ i ∙ sym (news_old E seen x xs t))
       (λ f. filter_yes lowest x xs (h ∙ ap not f) ∙ ap (λ ys. x ∷ ys) i ∙ sym (news_new E seen x xs f))
 
 -- the new values of the new ones by a finer test are the values of the new ones by the values
@@ -145,9 +135,7 @@ module _ {C : Type 0} (same : C → C → Bool) (sound : (c d : C) → same c d 
 
   any_carried : (p r : ℕ → Bool) (xs : List ℕ) → ((k : ℕ) → p k ≡ true → r k ≡ true) → list_any p xs ≡ true → list_any r xs ≡ true
   any_carried p r [] g h = h
-  any_carried p r (x ∷ xs) g h = on_bool (p x)
-      (λ t. rw (g x t) refl)
-      (λ n. or_right (r x) (list_any r xs) (any_carried p r xs g (sym (rw n refl) ∙ h)))
+  any_carried p r (x ∷ xs) g h = on_bool (p x) (λ t. rw (g x t) refl) (λ n. or_right (r x) (list_any r xs) (any_carried p r xs g (sym (rw n refl) ∙ h)))
 
   abbrev pub by_value : ℕ → ℕ → Bool
   by_value m k = same (f m) (f k)
@@ -159,14 +147,12 @@ module _ {C : Type 0} (same : C → C → Bool) (sound : (c d : C) → same c d 
       → (list_any q (map f seen) || (q (f m) || false)) ≡ list_any q (map f seen)
   seen_too q seen m h = on_bool (q (f m))
       (λ t. let a : list_any q (map f seen) ≡ true = (any-map q seen ∙ any_carried (λ k. E k m) (λ k. q (f k)) seen (λ k e. ap q (finer k m e) ∙ t) h) in
-      rw a refl)
-      (λ n. rw n (or_false _))
+      rw a refl) (λ n. rw n (or_false _))
 
   pub news_news : (seen kept xs : List ℕ) → ((q : C → Bool) → list_any q (map f kept) ≡ list_any q (map f seen))
       → news same (map f kept) (map f (news E seen xs)) ≡ map f (news by_value seen xs)
   news_news seen kept [] g = refl
-  news_news seen kept (x ∷ xs) g = on_bool (list_any (λ k. E k x) seen)
-      (λ t. ap (λ ys. news same (map f kept) (map f ys)) (news_old E seen x xs t)
+  news_news seen kept (x ∷ xs) g = on_bool (list_any (λ k. E k x) seen) (λ t. ap (λ ys. news same (map f kept) (map f ys)) (news_old E seen x xs t)
       ∙ news_news (seen ++ x ∷ []) kept xs (λ q. g q ∙ sym (any_more q seen x ∙ seen_too q seen x t))
       ∙ ap (map f) (sym (news_old by_value seen x xs (any_carried (λ k. E k x) (λ k. by_value k x) seen (λ k e. value_there k x e) t))))
       (λ n. let here : list_any (λ c. same c (f x)) (map f kept) ≡ list_any (λ k. by_value k x) seen = g (λ c. same c (f x))
@@ -174,8 +160,7 @@ module _ {C : Type 0} (same : C → C → Bool) (sound : (c d : C) → same c d 
       let more : news same (map f kept ++ f x ∷ []) (map f (news E (seen ++ x ∷ []) xs)) ≡ map f (news by_value (seen ++ x ∷ []) xs) =
       ap (λ ys. news same ys (map f (news E (seen ++ x ∷ []) xs))) (sym (map-append f kept (x ∷ [])))
       ∙ news_news (seen ++ x ∷ []) (kept ++ x ∷ []) xs (λ q. any_more q kept x ∙ ap (λ b. b || (q (f x) || false)) (g q) ∙ sym (any_more q seen x)) in
-      ap (λ ys. news same (map f kept) (map f ys)) (news_new E seen x xs n)
-      ∙ on_bool (list_any (λ k. by_value k x) seen)
+      ap (λ ys. news same (map f kept) (map f ys)) (news_new E seen x xs n) ∙ on_bool (list_any (λ k. by_value k x) seen)
       (λ t. news_old same (map f kept) (f x) (map f (news E (seen ++ x ∷ []) xs)) (here ∙ t) ∙ more ∙ ap (map f) (sym (news_old by_value seen x xs t)))
       (λ m. news_new same (map f kept) (f x) (map f (news E (seen ++ x ∷ []) xs)) (here ∙ m) ∙ ap (λ ys. f x ∷ ys) more
       ∙ ap (map f) (sym (news_new by_value seen x xs m))))
@@ -219,9 +204,7 @@ own_firsts_more numbers i (x ∷ cs) c =
     let j : own_firsts numbers (i + 1) (cs ++ c ∷ []) ≡ own_firsts numbers (i + 1) cs
     ++ (if slice_index numbers (i + suc (length cs)) == i + suc (length cs) then c ∷ [] else []) =
     h ∙ ap (λ k. own_firsts numbers (i + 1) cs ++ (if slice_index numbers k == k then c ∷ [] else [])) n in
-    on_bool (slice_index numbers i == i)
-    (λ t. rw t (ap (λ ys. x ∷ ys) j))
-    (λ f. rw f j)
+    on_bool (slice_index numbers i == i) (λ t. rw t (ap (λ ys. x ∷ ys) j)) (λ f. rw f j)
 
 pub own_yes : {C : Type 0} (numbers : List ℕ) (cs : List C) (c : C) → slice_index numbers (length cs) ≡ length cs
     → own_firsts numbers 0 (cs ++ c ∷ []) ≡ own_firsts numbers 0 cs ++ c ∷ []

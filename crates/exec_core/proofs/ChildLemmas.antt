@@ -22,8 +22,7 @@ pub contains_map : {X Y : Type 0} (f : X → Y) (xs : List X) (x : X) → Contai
 contains_map f [] x h = absurd (nowhere x h)
 contains_map f (y ∷ ys) x h = ⊎_elim
     (λ (e : y ≡ x). subst (λ z. Contains (f y ∷ map f ys) (f z)) e (contains_here (f y) (map f ys)))
-    (λ (c : Contains ys x). contains_there (f y) (f x) (map f ys) (contains_map f ys x c))
-    (contains_cases y x ys h)
+    (λ (c : Contains ys x). contains_there (f y) (f x) (map f ys) (contains_map f ys x c)) (contains_cases y x ys h)
 
 -- in a list of different numbers the others differ from the one in the middle
 pub to_front : (xs : List ℕ) (n : ℕ) (ys : List ℕ) → IsPermutation ((xs ++ n ∷ []) ++ ys) (n ∷ (xs ++ ys))
@@ -38,7 +37,7 @@ others_differ xs n ys k d c e =
 pub moved_distinct : (xs : List ℕ) (n : ℕ) (ys : List ℕ) → IsDistinct nat_eq ((xs ++ n ∷ []) ++ ys) → IsDistinct nat_eq (xs ++ (ys ++ n ∷ []))
 moved_distinct xs n ys d = IsDistinct-IsPermutation nat_eq flips ((xs ++ n ∷ []) ++ ys) (xs ++ (ys ++ n ∷ []))
     (subst (λ zs. IsPermutation zs (xs ++ (ys ++ n ∷ []))) (sym (append_assoc xs (n ∷ []) ys))
-    (IsPermutation-append_right xs (n ∷ ys) (ys ++ n ∷ []) (IsPermutation-append_comm (n ∷ []) ys))) d
+    (IsPermutation-append_right xs _ _ (IsPermutation-append_comm (n ∷ []) ys))) d
 
 module _ {M S W C : Type 0} (V : View M S W C) (lawful : IsLawful V) where
   -- one child p becomes q by a call that touches its state alone
@@ -143,13 +142,10 @@ module _ {M S W C : Type 0} (V : View M S W C) (lawful : IsLawful V) where
         seen = ap (λ xs. map (seen V c) fore ++ reverse xs) (map-append (seen V c) done (q ∷ []))
             ∙ ap (λ xs. map (seen V c) fore ++ xs) (reverse-append (map (seen V c) done) (seen V c q ∷ []))
             ∙ ap (λ x. map (seen V c) fore ++ (x ∷ reverse (map (seen V c) done))) (seen_touched b c p q t)
-            ∙ ap (λ xs. xs ++ (seen V b p ∷ reverse (map (seen V c) done))) fore_seen
-            ∙ ap (λ xs. map (seen V b) fore ++ (seen V b p ∷ reverse xs)) done_seen
-            ∙ sym (append_assoc (map (seen V b) fore) (seen V b p ∷ []) (reverse (map (seen V b) done)))
-            ∙ seen_split;
+            ∙ ap (λ xs. xs ++ (seen V b p ∷ reverse (map (seen V c) done))) fore_seen ∙ ap (λ xs. map (seen V b) fore ++ (seen V b p ∷ reverse xs)) done_seen
+            ∙ sym (append_assoc (map (seen V b) fore) (seen V b p ∷ []) (reverse (map (seen V b) done))) ∙ seen_split;
         distinct = subst (λ xs. IsDistinct nat_eq (numbers_of V fore ++ xs)) (ap (λ n. numbers_of V done ++ n ∷ []) (sym t.number)
-            ∙ sym (map-append (λ x. V.number x.state) done (q ∷ [])))
-            (moved_distinct (numbers_of V fore) (V.number p.state) (numbers_of V done)
+            ∙ sym (map-append (λ x. V.number x.state) done (q ∷ []))) (moved_distinct (numbers_of V fore) (V.number p.state) (numbers_of V done)
             (subst (λ xs. IsDistinct nat_eq (xs ++ numbers_of V done)) numbers_are i.distinct));
         inside = λ k h. i.inside k (subst (λ xs. Contains xs k) (sym numbers_are) (Contains-append_left (numbers_of V fore) (V.number p.state ∷ []) k h));
         out = o ∙ i.out;
@@ -164,8 +160,7 @@ module _ {M S W C : Type 0} (V : View M S W C) (lawful : IsLawful V) where
         seen = ap (λ xs. xs ++ reverse (map (seen V c) done)) (map-append (seen V c) fore (q ∷ []))
             ∙ ap (λ x. (map (seen V c) fore ++ x ∷ []) ++ reverse (map (seen V c) done)) (seen_touched b c p q t)
             ∙ ap (λ xs. (xs ++ seen V b p ∷ []) ++ reverse (map (seen V c) done)) fore_seen
-            ∙ ap (λ xs. (map (seen V b) fore ++ seen V b p ∷ []) ++ reverse xs) done_seen
-            ∙ seen_split;
+            ∙ ap (λ xs. (map (seen V b) fore ++ seen V b p ∷ []) ++ reverse xs) done_seen ∙ seen_split;
         distinct = subst (λ xs. IsDistinct nat_eq (xs ++ numbers_of V done)) (numbers_are ∙ ap (λ n. numbers_of V fore ++ n ∷ []) (sym t.number)
             ∙ sym (map-append (λ x. V.number x.state) fore (q ∷ []))) i.distinct;
         inside = λ k h. i.inside k (subst (λ xs. Contains xs k) (map-append (λ x. V.number x.state) fore (q ∷ [])

@@ -7,7 +7,6 @@ use Rattle.std.proofs.lemmas.List.Sorted.{IsPermutation-sym, IsPermutation-trans
 use Rattle.std.proofs.lemmas.List.Sorted.{length_permutation}
 use Rattle.traces.specs.View.{View, IsLawful}
 use Rattle.traces.proofs.Steps.{length_map}
-use Rattle.exec_core.specs.Children.{numbers_of}
 use Rattle.exec_core.specs.Plans.{planned_of, plans_of, ArePrepared}
 use Rattle.exec_core.specs.declared.plan.Plan.{Plan}
 use Rattle.exec_core.specs.Executions.{execution_of, state_numbers, applied_of, AreApplied}
@@ -32,13 +31,11 @@ module _ {M S W C : Type 0} (V : View M S W C) (lawful : IsLawful V) (a b c : M)
     made = d.made;
     added = d.added;
     out = d.applied.out;
-    seen = IsPermutation-trans (map (child_of V a e) plans) (map (child_of V a e) (map planned_of rs)) (map (execution_of V c) d.made)
-        (IsPermutation-map (child_of V a e) plans (map planned_of rs) p.planned)
+    seen = IsPermutation-trans _ _ _ (IsPermutation-map (child_of V a e) _ _ p.planned)
         (IsPermutation-sym _ _ (subst (IsPermutation (map (execution_of V c) d.made)) (d.applied.seen ∙ children)
         (IsPermutation-reverse (map (execution_of V c) d.made))));
     numbers = subst (λ xs. IsPermutation (state_numbers V d.made ++ V.out_numbers a) (V.number e.state ∷ xs)) (sym d.applied.out_numbers)
-        (IsPermutation-trans (state_numbers V d.made ++ V.out_numbers a) (numbers_of V rs ++ V.out_numbers a) (V.number e.state ∷ V.out_numbers b)
-        (IsPermutation-append_left (V.out_numbers a) (state_numbers V d.made) (numbers_of V rs)
+        (IsPermutation-trans _ _ _ (IsPermutation-append_left (V.out_numbers a) _ _
         (subst (IsPermutation (state_numbers V d.made)) d.applied.numbers (IsPermutation-reverse (state_numbers V d.made))))
         p.numbers);
     keeps = record {

@@ -45,7 +45,7 @@ use Rattle.exec_core.proofs.PrepareLemmas.{left_distinct, right_distinct}
 alone_is : {W C : Type 0} (T : Trial W C) → total_cost T (λ m n. 1) ≡ alone T
 alone_is T = ap (λ g. sum_by g (below T.mutants)) (λ i m. (ones (below (length (trace T m))) ∙ length-below (length (trace T m))) i)
 
-module _ {M S W C : Type 0} (V : View M S W C) (lawful : IsLawful V) (a b : M) (table : Table) (start : W) (budget n : ℕ) (E : Engine S C) (k0 k : ℕ)
+module _ {M S W C : Type 0} {V : View M S W C} (lawful : IsLawful V) {a b : M} (table : Table) (start : W) (budget : ℕ) {n : ℕ} {E : Engine S C} {k0 k : ℕ}
     (going : IsGoing V (trial_of (V.meanings a) table start budget) a b n E k0 k) where
   abbrev T : Trial W C
   T = trial_of (V.meanings a) table start budget
@@ -88,8 +88,7 @@ module _ {M S W C : Type 0} (V : View M S W C) (lawful : IsLawful V) (a b : M) (
     es_are = ap (λ xs. map (execution_of V b) (xs ++ E.ended.items)) none
 
     over : All (λ e. is_live T e ≡ false) es
-    over = subst (All (λ e. is_live T e ≡ false)) (sym es_are)
-        (All-map (λ e. is_live T e ≡ false) (execution_of V b) E.ended.items
+    over = subst (All (λ e. is_live T e ≡ false)) (sym es_are) (All-map (λ e. is_live T e ≡ false) (execution_of V b) E.ended.items
         (subst (λ (A : Meanings W C). All (λ (l : Concrete S). (not (A.ended (V.stands b l.state)) && nat_lt l.step budget) ≡ false) E.ended.items)
         going.keeps.meanings held.over))
 
@@ -120,7 +119,7 @@ module _ {M S W C : Type 0} (V : View M S W C) (lawful : IsLawful V) (a b : M) (
     pub all_splits : IsPermutation (map split_seen E.splits.items) (splits T)
     all_splits = splits_written T (map split_seen E.splits.items) (λ x. going.splits x ∙ paid (split_cost T x))
 
-    module _ (classes : List (Class S)) (moved : IsPermutation (map class_from E.ended.items) classes) where
+    module _ {classes : List (Class S)} (moved : IsPermutation (map class_from E.ended.items) classes) where
       ends : (l : Concrete S) → Contains E.ended.items l → IsEnd T (execution_of V b l)
       ends l c =
           let there : Contains es (execution_of V b l) = subst (λ xs. Contains xs (execution_of V b l)) (sym es_are)
@@ -130,15 +129,15 @@ module _ {M S W C : Type 0} (V : View M S W C) (lawful : IsLawful V) (a b : M) (
 
       pub are_classes : IsNonDecreasingBy (λ c. slice_index c.members 0) classes → AreClasses V T b classes
       are_classes rising = record {
-        once = IsPermutation-trans (below T.mutants) (flat_map (λ e. e.members) es) (flat_map (λ (c : Class S). c.members) classes) going.config.once
+        once = IsPermutation-trans _ _ _ going.config.once
             (subst (λ xs. IsPermutation xs (flat_map (λ (c : Class S). c.members) classes))
             (flat_map-map (λ (c : Class S). c.members) class_from E.ended.items
             ∙ sym (ap (flat_map (λ (e : Execution W). e.members)) es_are ∙ flat_map-map (λ (e : Execution W). e.members) (execution_of V b) E.ended.items))
             (flat_map_moved (λ (c : Class S). c.members) (map class_from E.ended.items) classes moved));
-        each = All-permutation (λ c. IsEnd T (end_of V b c)) (map class_from E.ended.items) classes moved
+        each = All-permutation (λ c. IsEnd T (end_of V b c)) _ _ moved
             (All-map (λ c. IsEnd T (end_of V b c)) class_from E.ended.items (All-from_contains (λ l. IsEnd T (execution_of V b l)) E.ended.items ends));
         rising = rising;
-        out = All-permutation (λ c. V.is_out b c.state) (map class_from E.ended.items) classes moved
+        out = All-permutation (λ c. V.is_out b c.state) _ _ moved
             (All-map (λ (c : Class S). V.is_out b c.state) class_from E.ended.items
             (All-from_contains (λ (l : Concrete S). V.is_out b l.state) E.ended.items
             (λ l c. All-contains (λ (x : Concrete S). V.is_out b x.state) (E.lives.items ++ E.ended.items) l held.out
@@ -151,18 +150,13 @@ module _ {M S W C : Type 0} (V : View M S W C) (lawful : IsLawful V) (a b : M) (
           let out : IsPermutation (V.out_numbers b) (ns ++ r) = subst (λ xs. IsPermutation (V.out_numbers b) (state_numbers V (xs ++ E.ended.items) ++ r)) none
           held.numbers in
           let same : IsPermutation ns cs = subst (λ xs. IsPermutation xs cs) (map-map (λ (c : Class S). V.number c.state) class_from E.ended.items)
-          (IsPermutation-map (λ (c : Class S). V.number c.state) (map class_from E.ended.items) classes moved) in
-          IsPermutation-trans (n ∷ V.out_numbers b) (n ∷ (ns ++ r)) (cs ++ V.out_numbers a) (IsPermutation-cons n (V.out_numbers b) (ns ++ r) out)
-          (IsPermutation-trans (n ∷ (ns ++ r)) (ns ++ n ∷ r) (cs ++ V.out_numbers a)
-          (IsPermutation-sym (ns ++ n ∷ r) (n ∷ (ns ++ r)) (IsPermutation-middle ns n r))
-          (IsPermutation-trans (ns ++ n ∷ r) (ns ++ V.out_numbers a) (cs ++ V.out_numbers a)
-          (IsPermutation-append_right ns (n ∷ r) (V.out_numbers a) (IsPermutation-sym (V.out_numbers a) (n ∷ r) beside))
-          (IsPermutation-append_left (V.out_numbers a) ns cs same)))
+          (IsPermutation-map (λ (c : Class S). V.number c.state) _ _ moved) in
+          IsPermutation-trans _ _ _ (IsPermutation-cons n _ _ out) (IsPermutation-trans _ _ _ (IsPermutation-sym _ _ (IsPermutation-middle ns n r))
+          (IsPermutation-trans _ _ _ (IsPermutation-append_right ns _ _ (IsPermutation-sym _ _ beside)) (IsPermutation-append_left (V.out_numbers a) _ _ same)))
 
 -- after a refusal all states of the executions are released
-module _ {M S W C : Type 0} (V : View M S W C) (lawful : IsLawful V) (T : Trial W C) (a b : M) (n : ℕ) (E : Engine S C) (k0 k : ℕ)
-    (stopped : IsStopped V T a b n E k0 k)
-    (o : Contains (V.out_numbers a) n) where
+module _ {M S W C : Type 0} {V : View M S W C} (lawful : IsLawful V) {T : Trial W C} {a b : M} {n : ℕ} {E : Engine S C} {k0 k : ℕ}
+    (stopped : IsStopped V T a b n E k0 k) (o : Contains (V.out_numbers a) n) where
   abbrev all : List (Concrete S)
   all = E.lives.items ++ E.ended.items
 
@@ -181,14 +175,13 @@ module _ {M S W C : Type 0} (V : View M S W C) (lawful : IsLawful V) (T : Trial 
   pub left_distinct_numbers : IsDistinct nat_eq (state_numbers V (E.lives.items ++ E.ended.items))
   left_distinct_numbers = left_distinct (state_numbers V (E.lives.items ++ E.ended.items)) (remove (V.out_numbers a) o.0) whole_distinct
 
-  module _ (c : M) (p : IsPermutation (V.out_numbers b) (state_numbers V (E.lives.items ++ E.ended.items) ++ V.out_numbers c))
+  module _ {c : M} (p : IsPermutation (V.out_numbers b) (state_numbers V (E.lives.items ++ E.ended.items) ++ V.out_numbers c))
       (q : Keeps V b c (state_numbers V (E.lives.items ++ E.ended.items))) where
     pub released : IsPermutation (V.out_numbers a) (n ∷ V.out_numbers c)
     released =
         let ns = state_numbers V (E.lives.items ++ E.ended.items) in let r = remove (V.out_numbers a) o.0 in
-        IsPermutation-trans (V.out_numbers a) (n ∷ r) (n ∷ V.out_numbers c) left_beside
-        (IsPermutation-cons n r (V.out_numbers c) (cancel_front ns r (V.out_numbers c)
-        (IsPermutation-trans (ns ++ r) (V.out_numbers b) (ns ++ V.out_numbers c) (IsPermutation-sym (V.out_numbers b) (ns ++ r) left_held.numbers) p)))
+        IsPermutation-trans _ _ _ left_beside (IsPermutation-cons n _ _ (cancel_front ns r (V.out_numbers c)
+        (IsPermutation-trans _ _ _ (IsPermutation-sym _ _ left_held.numbers) p)))
 
     none_of_ours : (j : ℕ) → Contains (V.out_numbers a) j → (Contains (n ∷ []) j → ⊥) → Contains (state_numbers V (E.lives.items ++ E.ended.items)) j → ⊥
     none_of_ours j i ne h = apart_lists (state_numbers V (E.lives.items ++ E.ended.items)) (remove (V.out_numbers a) o.0) j whole_distinct h
@@ -234,9 +227,7 @@ module _ {M S W C : Type 0} (V : View M S W C) (lawful : IsLawful V) (a : M) (li
       pub both_released : IsPermutation (V.out_numbers a) (state_numbers V (lives ++ ended) ++ V.out_numbers c)
       both_released = subst (λ xs. IsPermutation (V.out_numbers a) (xs ++ V.out_numbers c)) (sym numbers_both)
           (subst (IsPermutation (V.out_numbers a)) (sym (append_assoc (state_numbers V lives) (state_numbers V ended) (V.out_numbers c)))
-          (IsPermutation-trans (V.out_numbers a) (state_numbers V lives ++ V.out_numbers b) (state_numbers V lives
-          ++ (state_numbers V ended ++ V.out_numbers c)) p
-          (IsPermutation-append_right (state_numbers V lives) (V.out_numbers b) (state_numbers V ended ++ V.out_numbers c) q)))
+          (IsPermutation-trans _ _ _ p (IsPermutation-append_right (state_numbers V lives) _ _ q)))
 
       in_lives : (x : ℕ) → (Contains (state_numbers V (lives ++ ended)) x → ⊥) → Contains (state_numbers V lives) x → ⊥
       in_lives x ne h = ne (subst (λ ns. Contains ns x) (sym numbers_both) (Contains-append_left (state_numbers V lives) (state_numbers V ended) x h))

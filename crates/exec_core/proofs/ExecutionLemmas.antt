@@ -63,8 +63,7 @@ module _ {M S W C : Type 0} (V : View M S W C) (lawful : IsLawful V) where
     fore_stands x h = t.keeps.stands x.state ((fore_readied x h).planned.out) (λ e. fore_apart x h (single e))
 
     fore_seen : map (applied_of V c step) fore ≡ map (applied_of V b step) fore
-    fore_seen = map_where (applied_of V c step) (applied_of V b step) fore
-        (λ x h. let s = fore_stands x h in let m = t.keeps.meanings in cc)
+    fore_seen = map_where (applied_of V c step) (applied_of V b step) fore (λ x h. let s = fore_stands x h in let m = t.keeps.meanings in cc)
 
     made_seen : map (execution_of V c) made ≡ map (execution_of V b) made
     made_seen = map_where (execution_of V c) (execution_of V b) made (λ x h. let s = made_stands x h in cc)
@@ -91,16 +90,13 @@ module _ {M S W C : Type 0} (V : View M S W C) (lawful : IsLawful V) where
           ∙ ap (λ x. map (applied_of V c step) fore ++ (x ∷ reverse (map (execution_of V c) made))) q_seen
           ∙ ap (λ xs. xs ++ (applied_of V b step p ∷ reverse (map (execution_of V c) made))) fore_seen
           ∙ ap (λ xs. map (applied_of V b step) fore ++ (applied_of V b step p ∷ reverse xs)) made_seen
-          ∙ sym (append_assoc (map (applied_of V b step) fore) (applied_of V b step p ∷ []) (reverse (map (execution_of V b) made)))
-          ∙ seen_split;
+          ∙ sym (append_assoc (map (applied_of V b step) fore) (applied_of V b step p ∷ []) (reverse (map (execution_of V b) made))) ∙ seen_split;
       numbers = ap (λ xs. numbers_of V fore ++ reverse xs) (map-append (λ l. V.number l.state) made (q ∷ []))
           ∙ ap (λ xs. numbers_of V fore ++ xs) (reverse-append (state_numbers V made) (V.number q.state ∷ []))
           ∙ ap (λ n. numbers_of V fore ++ (n ∷ reverse (state_numbers V made))) t.number
-          ∙ sym (append_assoc (numbers_of V fore) (V.number p.state ∷ []) (reverse (state_numbers V made)))
-          ∙ numbers_split;
+          ∙ sym (append_assoc (numbers_of V fore) (V.number p.state ∷ []) (reverse (state_numbers V made))) ∙ numbers_split;
       distinct = subst (λ xs. IsDistinct nat_eq (numbers_of V fore ++ xs)) (ap (λ n. state_numbers V made ++ n ∷ []) (sym t.number)
-          ∙ sym (map-append (λ l. V.number l.state) made (q ∷ [])))
-          (moved_distinct (numbers_of V fore) (V.number p.state) (state_numbers V made)
+          ∙ sym (map-append (λ l. V.number l.state) made (q ∷ []))) (moved_distinct (numbers_of V fore) (V.number p.state) (state_numbers V made)
           (subst (λ xs. IsDistinct nat_eq (xs ++ state_numbers V made)) numbers_are i.distinct));
       out_numbers = t.out_numbers ∙ i.out_numbers;
       keeps = keeps_more V lawful a b c (numbers_of V all) (V.number p.state ∷ []) (numbers_of V all) (λ k h. h)

@@ -55,9 +55,12 @@ pub moved_cost : {S : Type 0} (f : ℕ → ℕ → ℕ) (es gs : List (Execution
 unfolding cost_so_far
 moved_cost f es gs p = sum_by-IsPermutation (λ e. sum_by (λ m. sum_by (f m) (below e.step)) e.members) es gs p
 
-module _ {W C : Type 0} (T : Trial W C) (same : IsSameTest T.meanings) (e : Execution W) (is : IsExecution T e) (live : is_live T e ≡ true)
-    (rest es gs : List (Execution W))
-    (was : IsPermutation es (e ∷ rest)) (now : IsPermutation (rest ++ parts T e) gs) where
+between : {low value : ℕ} (by so_far : ℕ) {now total new : ℕ} → value ≡ low + so_far → now ≡ so_far + by → now ≤ total → IsBetween value new (value + by)
+    → IsBetween low new (low + total)
+between by so_far e f l b = record { least = omega (arith, b.least, e); most = omega (arith, b.most, e, f, l) }
+
+module _ {W C : Type 0} {T : Trial W C} (same : IsSameTest T.meanings) {e : Execution W} (is : IsExecution T e) (live : is_live T e ≡ true)
+    {rest es gs : List (Execution W)} (was : IsPermutation es (e ∷ rest)) (now : IsPermutation (rest ++ parts T e) gs) where
   pub turned_cost : (f : ℕ → ℕ → ℕ) → cost_so_far f gs ≡ cost_so_far f es + cost_of_turn f e
   turned_cost f = moved_cost f (rest ++ parts T e) gs now ∙ spent_turn T same f e is live [] rest
       ∙ ap (λ n. n + cost_of_turn f e) (moved_cost f es (e ∷ rest) was)
@@ -77,28 +80,20 @@ module _ {W C : Type 0} (T : Trial W C) (same : IsSameTest T.meanings) (e : Exec
     asks = λ port. (let h = turned_cost (asks_cost T port) in let k = tolls_cost T same e is live port in omega (arith, r.asks port, s.asks port, h, k));
   }
 
-  between : (low value high by so_far now total : ℕ) → value ≡ low + so_far → now ≡ so_far + by → now ≤ total → (new : ℕ) → IsBetween value new (value + by)
-      → IsBetween low new (low + total)
-  between low value high by so_far now total e f l new b = record { least = omega (arith, b.least, e); most = omega (arith, b.most, e, f, l) }
-
   -- a refused turn counts no more than the turn that is owed
   pub refused_counts : IsConfiguration T es → (a b c : Counts) → RoseBy a b (counts_so_far T es) → RoseWithin b c (counts_of_turn T e)
       → RoseWithin a c (totals T)
   refused_counts conf a b c r s =
       let g = turned_config conf in
       let most : (f : ℕ → ℕ → ℕ) → cost_so_far f gs ≤ total_cost T f = (λ f. spent_at_most T same f gs g) in
+      let by : (f : ℕ → ℕ → ℕ) (n : ℕ) → n ≡ cost_of_turn f e → cost_so_far f gs ≡ cost_so_far f es + n =
+      (λ f m h. turned_cost f ∙ ap (λ n. cost_so_far f es + n) (sym h)) in
       record {
-        tried = (let h = turned_cost (try_cost T) in let k = tries_cost T same e is live in
-            between a.tried b.tried 0 _ _ _ _ r.tried (h ∙ ap (λ n. cost_so_far (try_cost T) es + n) (sym k)) (most (try_cost T)) c.tried s.tried);
-        applied = (let h = turned_cost (step_cost T) in let k = parts_cost T same e is live in
-            between a.applied b.applied 0 _ _ _ _ r.applied (h ∙ ap (λ n. cost_so_far (step_cost T) es + n) (sym k)) (most (step_cost T)) c.applied s.applied);
-        weighed = (let h = turned_cost (load_cost T) in let k = weights_cost T same e is live in
-            between a.weighed b.weighed 0 _ _ _ _ r.weighed (h ∙ ap (λ n. cost_so_far (load_cost T) es + n) (sym k)) (most (load_cost T)) c.weighed s.weighed);
-        readied = (let h = turned_cost (load_cost T) in let k = weights_cost T same e is live in
-            between a.readied b.readied 0 _ _ _ _ r.readied (h ∙ ap (λ n. cost_so_far (load_cost T) es + n) (sym k)) (most (load_cost T)) c.readied s.readied);
-        asks = λ port. (let h = turned_cost (asks_cost T port) in let k = tolls_cost T same e is live port in
-            between (a.asks port) (b.asks port) 0 _ _ _ _ (r.asks port) (h ∙ ap (λ n. cost_so_far (asks_cost T port) es + n) (sym k)) (most (asks_cost T port))
-            (c.asks port) (s.asks port));
+        tried = between _ _ r.tried (by (try_cost T) _ (tries_cost T same e is live)) (most (try_cost T)) s.tried;
+        applied = between _ _ r.applied (by (step_cost T) _ (parts_cost T same e is live)) (most (step_cost T)) s.applied;
+        weighed = between _ _ r.weighed (by (load_cost T) _ (weights_cost T same e is live)) (most (load_cost T)) s.weighed;
+        readied = between _ _ r.readied (by (load_cost T) _ (weights_cost T same e is live)) (most (load_cost T)) s.readied;
+        asks = λ port. between _ _ (r.asks port) (by (asks_cost T port) _ (tolls_cost T same e is live port)) (most (asks_cost T port)) (s.asks port);
       }
 
   pub turned_splits : (x : ℕ × List ℕ) (old new : List (ℕ × List ℕ)) → count_by (same_split x) old ≡ cost_so_far (split_cost T x) es → new ≡ old
@@ -114,7 +109,7 @@ below_bound m b c total hm hb hc h =
     let x : b * c ≤ MAX_BUDGET * 65536 = mul-le-mul hb hc in
     let y : m * (b * c) ≤ MAX_MUTANTS * 655360000000 = mul-le-mul hm x in omega arith
 
-module _ {M S W C : Type 0} (V : View M S W C) (lawful : IsLawful V) (a b : M) (table : Table) (start : W) (budget n : ℕ) (E : Engine S C) (k0 k : ℕ)
+module _ {M S W C : Type 0} {V : View M S W C} (lawful : IsLawful V) {a b : M} (table : Table) (start : W) (budget : ℕ) {n : ℕ} {E : Engine S C} {k0 k : ℕ}
     (few : mutants_of table ≤ MAX_MUTANTS) (short : budget ≤ MAX_BUDGET) (known : KnowsTable (V.meanings a) table)
     (going : IsGoing V (trial_of (V.meanings a) table start budget) a b n E k0 k) where
   abbrev T : Trial W C
@@ -206,7 +201,7 @@ module _ {M S W C : Type 0} (V : View M S W C) (lawful : IsLawful V) (a b : M) (
       execution_here : (rest : List (Execution W)) → IsPermutation es (execution_of V b l ∷ rest) → IsExecution T (execution_of V b l)
       execution_here rest p = All-head (IsExecution T) (execution_of V b l) rest (configuration_moved T es (execution_of V b l ∷ rest) p going.config).each
 
-    module _ (c : M) (at : ℕ) (F : Engine S C) (k' : ℕ) (held : (xs : List ℕ) → IsHeld V b budget xs E.lives.items E.ended.items
+    module _ {c : M} {at : ℕ} {F : Engine S C} {k' : ℕ} (held : (xs : List ℕ) → IsHeld V b budget xs E.lives.items E.ended.items
         → IsHeld V c budget xs F.lives.items F.ended.items)
         (q : Keeps V b c (state_numbers V (E.lives.items ++ E.ended.items))) where
       module _ (turned : Turned V T b c at E F k k') where
@@ -223,24 +218,23 @@ module _ {M S W C : Type 0} (V : View M S W C) (lawful : IsLawful V) (a b : M) (
         is_execution = execution_here at turned.turned turned.there turned.rest turned.was
 
         cost : (f : ℕ → ℕ → ℕ) → cost_so_far f gs ≡ cost_so_far f es + cost_of_turn f e
-        cost = turned_cost T same_test e is_execution live turned.rest es gs turned.was turned.is
+        cost = turned_cost same_test is_execution live turned.was turned.is
 
         pub going_more : IsGoing V T a c n F k0 k'
         going_more = record {
           held = λ xs p. held xs (going.held xs p);
           keeps = keeps_on c q;
-          config = turned_config T same_test e is_execution live turned.rest es gs turned.was turned.is going.config;
-          counts = turned_counts T same_test e is_execution live turned.rest es gs turned.was turned.is (V.counts a) (V.counts b)
-              (V.counts c) going.counts turned.counts;
+          config = turned_config same_test is_execution live turned.was turned.is going.config;
+          counts = turned_counts same_test is_execution live turned.was turned.is (V.counts a) (V.counts b) (V.counts c) going.counts turned.counts;
           meter = (let h = cost (step_cost T) in let j = parts_cost T same_test e is_execution live in omega (arith, going.meter, turned.meter, h, j));
           tries = (let h = cost (try_cost T) in let j = tries_cost T same_test e is_execution live in omega (arith, going.tries, turned.tries, h, j));
           alone = (let h = cost (λ m n. 1) in let j = ones e.members in omega (arith, going.alone, turned.alone, h, j));
-          splits = λ x. turned_splits T same_test e is_execution live turned.rest es gs turned.was turned.is x (map split_seen E.splits.items)
+          splits = λ x. turned_splits same_test is_execution live turned.was turned.is x (map split_seen E.splits.items)
               (map split_seen F.splits.items) (going.splits x) turned.splits;
         }
 
         pub closer : cost_so_far (λ m n. 1) es < cost_so_far (λ m n. 1) gs
-        closer = turned_more T same_test e is_execution live turned.rest es gs turned.was turned.is
+        closer = turned_more same_test is_execution live turned.was turned.is
 
         -- what the configuration has cost is at most all that is owed
         pub owed : cost_so_far (λ m n. 1) gs ≤ total_cost T (λ m n. 1)
@@ -257,9 +251,8 @@ module _ {M S W C : Type 0} (V : View M S W C) (lawful : IsLawful V) (a b : M) (
           record {
             held = λ xs h. held xs (going.held xs h);
             keeps = keeps_on c q;
-            counts = refused_counts T same_test x (execution_here at r.refused r.there rest p) (live_here at r.refused r.there) rest es (rest ++ parts T x) p
-                (IsPermutation-refl (rest ++ parts T x)) going.config
-                (V.counts a) (V.counts b) (V.counts c) going.counts r.counts;
+            counts = refused_counts same_test (execution_here at r.refused r.there rest p) (live_here at r.refused r.there) p
+                (IsPermutation-refl (rest ++ parts T x)) going.config (V.counts a) (V.counts b) (V.counts c) going.counts r.counts;
             meter = (let l = spent (step_cost T) in record { least = omega (arith, going.meter, r.meter); most = omega (arith, going.meter, r.meter, l) });
             beside = omega (arith, going.meter, r.meter, going.counts.applied, r.applied);
           }
@@ -294,8 +287,7 @@ module _ {M S W C : Type 0} (V : View M S W C) (lawful : IsLawful V) (a : M) (ta
           out = subst (All (λ x. V.is_out a x.state)) (sym one) (All-cons (λ (x : Concrete S). V.is_out a x.state) first [] o
               (All-nil (λ (x : Concrete S). V.is_out a x.state)));
           numbers = subst (λ ys. IsPermutation (V.out_numbers a) (state_numbers V ys ++ xs)) (sym one) p;
-          live = on_bool (goes_on V a budget first)
-              (λ y. subst (All (λ x. goes_on V a budget x ≡ true)) (sym (on y).0)
+          live = on_bool (goes_on V a budget first) (λ y. subst (All (λ x. goes_on V a budget x ≡ true)) (sym (on y).0)
               (All-cons (λ x. goes_on V a budget x ≡ true) first [] y (All-nil (λ x. goes_on V a budget x ≡ true))))
               (λ n. subst (All (λ x. goes_on V a budget x ≡ true)) (sym (over n).0) (All-nil (λ x. goes_on V a budget x ≡ true)));
           over = on_bool (goes_on V a budget first)
@@ -324,9 +316,7 @@ module _ {M S W C : Type 0} (V : View M S W C) (lawful : IsLawful V) (a : M) (ta
   none_opened b r s l e = record {
     held = λ xs p. subst (λ ys. IsHeld V b budget xs ys E.ended.items) (sym l) (subst (IsHeld V b budget xs []) (sym e) (record {
       out = All-nil (λ x. V.is_out b x.state);
-      numbers = cancel_front (V.number start ∷ []) (V.out_numbers b) xs
-          (IsPermutation-trans (V.number start ∷ V.out_numbers b) (V.out_numbers a) (V.number start ∷ xs)
-          (IsPermutation-sym (V.out_numbers a) (V.number start ∷ V.out_numbers b) r.numbers) p);
+      numbers = cancel_front (V.number start ∷ []) (V.out_numbers b) xs (IsPermutation-trans _ _ _ (IsPermutation-sym _ _ r.numbers) p);
       live = All-nil (λ x. goes_on V b budget x ≡ true);
       over = All-nil (λ x. goes_on V b budget x ≡ false);
     }));

@@ -32,8 +32,7 @@ same_counts_more a b c p q = record {
   tried = q.tried ∙ p.tried;
   applied = q.applied ∙ p.applied;
   weighed = q.weighed ∙ p.weighed;
-  readied = q.readied
-      ∙ p.readied;
+  readied = q.readied ∙ p.readied;
   asks = λ k. q.asks k ∙ p.asks k;
 }
 
@@ -42,8 +41,7 @@ apart_lists [] ys k d c e = let l = c.1 in absurd (omega arith)
 apart_lists (x ∷ xs) ys k d c e = ⊎_elim
     (λ (i : x ≡ k). true≢false (sym (eq-eqb x k i) ∙ All-contains (λ y. nat_eq x y ≡ false) (xs ++ ys) k
     (All-from_recursion (λ y. nat_eq x y ≡ false) (xs ++ ys) (IsDistinct-head nat_eq x (xs ++ ys) d)) (Contains-append_right xs ys k e)))
-    (λ (i : Contains xs k). apart_lists xs ys k (IsDistinct-tail nat_eq x (xs ++ ys) d) i e)
-    (contains_cases x k xs c)
+    (λ (i : Contains xs k). apart_lists xs ys k (IsDistinct-tail nat_eq x (xs ++ ys) d) i e) (contains_cases x k xs c)
 
 module _ {M S W C : Type 0} (V : View M S W C) (lawful : IsLawful V) where
   pub keeps_none : (m : M) (xs : List ℕ) → Keeps V m m xs
@@ -68,10 +66,8 @@ module _ {M S W C : Type 0} (V : View M S W C) (lawful : IsLawful V) where
     out = All-push (V.is_out c) ts t (All-weaker (V.is_out b) (V.is_out c) (λ u h. k'.out u h (nowhere _)) ts f.out) ot;
     stand = All-push (λ u. V.stands c u ≡ V.stands a s) ts t (λ k d l. k'.stands _ (f.out k d l) (nowhere _) ∙ f.stand k d l) (st ∙ e);
     numbers = subst (λ xs. IsPermutation (xs ++ V.out_numbers a) (V.out_numbers c)) (sym (map-append V.number ts (t ∷ [])))
-        (IsPermutation-trans _ (V.number t ∷ V.out_numbers b) _ (IsPermutation-trans _ (V.number t ∷ (map V.number ts ++ V.out_numbers a)) _
-        (IsPermutation-append_left (V.out_numbers a) (map V.number ts ++ V.number t ∷ []) (V.number t ∷ map V.number ts)
-        (IsPermutation-to_front (map V.number ts) (V.number t)))
-        (IsPermutation-cons (V.number t) _ _ f.numbers)) p);
+        (IsPermutation-trans _ _ _ (IsPermutation-trans _ _ _ (IsPermutation-append_left (V.out_numbers a) _ _
+        (IsPermutation-to_front (map V.number ts) (V.number t))) (IsPermutation-cons (V.number t) _ _ f.numbers)) p);
   }
 
   pub left_all : (m : M) (states : List S) → All (V.is_out m) states → IsDistinct nat_eq (map V.number states) → AreLeftOf V m (map V.number states) m states
@@ -85,8 +81,7 @@ module _ {M S W C : Type 0} (V : View M S W C) (lawful : IsLawful V) where
       All-contains (λ y. nat_eq (V.number u) y ≡ false) (map V.number (us ++ s ∷ [])) (V.number s)
       (All-from_recursion (λ y. nat_eq (V.number u) y ≡ false) _ (IsDistinct-head nat_eq (V.number u) (map V.number (us ++ s ∷ [])) d))
       (subst (λ xs. Contains xs (V.number s)) (sym (map-append V.number us (s ∷ []))) (Contains-push (map V.number us) (V.number s)))))
-      (λ (i : Contains us t). apart us s t (IsDistinct-tail nat_eq (V.number u) (map V.number (us ++ s ∷ [])) d) i e)
-      (contains_cases u t us c)
+      (λ (i : Contains us t). apart us s t (IsDistinct-tail nat_eq (V.number u) (map V.number (us ++ s ∷ [])) d) i e) (contains_cases u t us c)
 
   front_distinct : (fore : List ℕ) (x : ℕ) → IsDistinct nat_eq (fore ++ x ∷ []) → IsDistinct nat_eq fore
   front_distinct fore x d = IsDistinct-tail nat_eq x fore (IsDistinct-IsPermutation nat_eq flips (fore ++ x ∷ []) (x ∷ fore) (IsPermutation-to_front fore x) d)
@@ -105,7 +100,7 @@ module _ {M S W C : Type 0} (V : View M S W C) (lawful : IsLawful V) where
         distinct = front_distinct (map V.number fore) n (subst (IsDistinct nat_eq) (map-append V.number fore (s ∷ [])) d);
         gone = n ∷ l.gone;
         all_are = all';
-        numbers = IsPermutation-trans (V.out_numbers a) (l.gone ++ V.out_numbers b) (n ∷ (l.gone ++ V.out_numbers c)) l.numbers
+        numbers = IsPermutation-trans _ _ _ l.numbers
             (IsPermutation-trans _ _ _ (IsPermutation-append_right l.gone _ _ p) (IsPermutation-middle l.gone n (V.out_numbers c)));
         keeps = keeps_more a b c all (n ∷ []) all (λ j h. h) (λ j h. subst (λ xs. Contains xs j) (sym all')
             (Contains-append_right (map V.number fore) (n ∷ l.gone) j (subst (Contains (n ∷ l.gone)) (single h) (contains_here n l.gone)))) l.keeps k;

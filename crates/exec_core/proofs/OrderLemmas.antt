@@ -29,8 +29,7 @@ rising_without n xs at l up i j d h m =
     (λ (b : at ≤ j). let q = ap n (get_or-remove_above xs at d j b l) in ⊎_elim
     (λ (a : i < at). let p = ap n (get_or-remove_below xs at d i a l) in let c = up i (j + 1) d (omega arith) (omega arith) in omega arith)
     (λ (a : at ≤ i). let p = ap n (get_or-remove_above xs at d i a l) in let c = up (i + 1) (j + 1) d (omega arith) (omega arith) in omega arith)
-    (cases_lt i at))
-    (cases_lt j at)
+    (cases_lt i at)) (cases_lt j at)
 
 pub map-remove : {X Y : Type 0} (f : X → Y) (xs : List X) (at : ℕ) → map f (remove xs at) ≡ remove (map f xs) at
 map-remove f xs at = map-append f (take at xs) (drop (suc at) xs) ∙ ap (λ ys. ys ++ map f (drop (suc at) xs)) (sym (take-map f at xs))
@@ -55,8 +54,7 @@ module _ {X : Type 0} (before : List X) (at : ℕ) (l : at < length before) (tak
 
   rest_at : (d : X) → at + 1 < length before → get_or rest at d ≡ get_or before (length before - 1) d
   rest_at d b = get_or-take (length before - 1) (set before at (get_or before (length before - 1) taken)) at d (omega arith)
-      ∙ get_or-set_same before at (get_or before (length before - 1) taken) d l
-      ∙ get_or_default before (length before - 1) taken d (omega arith)
+      ∙ get_or-set_same before at (get_or before (length before - 1) taken) d l ∙ get_or_default before (length before - 1) taken d (omega arith)
 
   -- where it was the last one, the list is without it
   pub last_left : length (swap_remove before at taken) ≤ at → swap_remove before at taken ≡ remove before at
@@ -81,9 +79,7 @@ module _ {X : Type 0} (before : List X) (at : ℕ) (l : at < length before) (tak
       let last : k ≡ length (remove rest at) = omega arith in
       let here : k + 1 ≡ length before - 1 = omega arith in
       get_or_at (remove rest at) y [] d k (sym last) ∙ r ∙ get_or_default rest at y d h ∙ rest_at d (omega arith)
-      ∙ ap (λ i. get_or before i d) (sym here) ∙ sym (get_or-remove_above before at d k c l))
-      (cases_lt k (length (remove rest at))))
-      (cases_lt k at))
+      ∙ ap (λ i. get_or before i d) (sym here) ∙ sym (get_or-remove_above before at d k c l)) (cases_lt k (length (remove rest at)))) (cases_lt k at))
 
   -- another one was put at the end, and goes to its place
   pub put_there : (y : X) (lives after : List X) → lives ≡ swap_remove before at taken ++ y ∷ [] → after ≡ swap lives at (length before - 1)
@@ -103,9 +99,7 @@ module _ {X : Type 0} (before : List X) (at : ℕ) (l : at < length before) (tak
       ∙ ap (λ i. get_or before i d) (sym f) ∙ sym (get_or-set_other before at k y d c))
       (λ (f : k ≢ length before - 1).
       swapped.2 k c f ∙ ap (λ zs. get_or zs k d) e ∙ get_or_append_left rest (y ∷ []) d k (omega arith) ∙ rest_other k d c (omega arith)
-      ∙ sym (get_or-set_other before at k y d c))
-      (cases_eq k (length before - 1)))
-      (cases_eq k at))
+      ∙ sym (get_or-set_other before at k y d c)) (cases_eq k (length before - 1))) (cases_eq k at))
 
 none_made : {X : Type 0} (xs : List X) → length xs ≡ 0 → xs ≡ []
 none_made [] h = refl

@@ -39,10 +39,8 @@ module _ {S C : Type 0} (T : Trial S C) (same : IsSameTest T.meanings) (e : Exec
   there m c =
       let v = variant_in T e in let n = length e.members in
       let all = take_all n e.members (omega arith) in
-      contained (v m) variants
-      (subst (λ ms. list_any (λ x. x == v m) (map v (filter (is_class_leader v e.members) ms)) ≡ true) all
-      (any_firsts v e.members is (v m) n (omega arith)
-      ∙ ap (λ ms. list_any (λ x. x == v m) (map v ms)) all
+      contained (v m) variants (subst (λ ms. list_any (λ x. x == v m) (map v (filter (is_class_leader v e.members) ms)) ≡ true) all
+      (any_firsts v e.members is (v m) n (omega arith) ∙ ap (λ ms. list_any (λ x. x == v m) (map v ms)) all
       ∙ any_from (λ x. x == v m) (map v e.members) (v m) (contains_map v e.members m c) (eq-eqb _ _ refl)))
 
   module _ (h : HasClasses variants (first_equal T.meanings.same changes) table) where
@@ -54,8 +52,7 @@ module _ {S C : Type 0} (T : Trial S C) (same : IsSameTest T.meanings) (e : Exec
         let at : slice_index variants i ≡ v = (get_or_default variants i 0 v t.1 ∙ t.2) in
         let place : C → ℕ = λ x. position_or_len (λ y. T.meanings.same y x) changes in
         let l : i < length changes = (let k = length-map variants change in let j = t.1 in omega arith) in
-        ap (slice_index table) (sym at) ∙ h.class i t.1
-        ∙ get_or-map place changes i (change v) 0 l
+        ap (slice_index table) (sym at) ∙ h.class i t.1 ∙ get_or-map place changes i (change v) 0 l
         ∙ ap place (get_or-map change variants i 0 (change v) t.1 ∙ ap change at)
 
     same_classes : (m k : ℕ) → Contains e.members m → Contains e.members k
@@ -74,8 +71,8 @@ module _ {S C : Type 0} (T : Trial S C) (same : IsSameTest T.meanings) (e : Exec
 
 -- what the calls of a plan give is the plans of the definitions
 module _ {S C : Type 0} (T : Trial S C) (same : IsSameTest T.meanings) (e : Execution S) (is : IsMemberList e.members)
-    (vs : List ℕ) (tried : vs ≡ variants_of T e) (cs : List C) (made : cs ≡ map (λ v. T.meanings.next v e.state) vs)
-    (ns : List ℕ) (grouped : ns ≡ first_equal T.meanings.same cs) (p : ℕ) (here : p ≡ T.meanings.place e.state) where
+    {vs : List ℕ} (tried : vs ≡ variants_of T e) {cs : List C} (made : cs ≡ map (λ v. T.meanings.next v e.state) vs)
+    {ns : List ℕ} (grouped : ns ≡ first_equal T.meanings.same cs) {p : ℕ} (here : p ≡ T.meanings.place e.state) where
   abbrev pub of_leaders : {X : Type 0} → (ℕ → X) → List X
   of_leaders f = map f (filter (is_leader T e) e.members)
 
@@ -85,7 +82,7 @@ module _ {S C : Type 0} (T : Trial S C) (same : IsSameTest T.meanings) (e : Exec
   pub changes_planned : own_firsts ns 0 cs ≡ of_leaders (λ m. change_of T m e.state)
   changes_planned = ap (λ xs. own_firsts xs 0 cs) grouped ∙ leading_changes T same e is cs made_is
 
-  module _ (table : List ℕ) (h : HasClasses vs ns table) where
+  module _ {table : List ℕ} (h : HasClasses vs ns table) where
     has : HasClasses (variants_of T e) (first_equal T.meanings.same (map (λ v. T.meanings.next v e.state) (variants_of T e))) table
     has = subst (λ xs. HasClasses (variants_of T e) xs table) (grouped ∙ ap (first_equal T.meanings.same) made_is)
         (subst (λ xs. HasClasses xs ns table) tried h)
@@ -105,17 +102,15 @@ module _ {S C : Type 0} (T : Trial S C) (same : IsSameTest T.meanings) (e : Exec
         let at : slice_index xs i ≡ v = (get_or_default xs i 0 v t.1 ∙ t.2) in
         let is : slice_index table v ≡ slice_index numbers i = (ap (slice_index table) (sym at) ∙ has.class i t.1) in
         subst (λ ys. Contains ys (slice_index table (T.variant m p))) (sym (grouped ∙ ap (first_equal T.meanings.same) made_is))
-        (subst (λ q. Contains numbers (slice_index table (T.variant m q))) (sym here)
-        (i, l, get_or_default numbers i (slice_index table v) 0 l ∙ sym is))
+        (subst (λ q. Contains numbers (slice_index table (T.variant m q))) (sym here) (i, l, get_or_default numbers i (slice_index table v) 0 l ∙ sym is))
 
-    pub parts_planned : (ps : List (List ℕ)) → ps ≡ parts_by (class_at T.variant p table) e.members
+    pub parts_planned : {ps : List (List ℕ)} → ps ≡ parts_by (class_at T.variant p table) e.members
         → ps ≡ of_leaders (λ m. filter (same_change T e m) e.members)
-    parts_planned ps f = f ∙ ap (λ q. parts_by (class_at T.variant q table) e.members) here ∙ parts_are T same e is table has
+    parts_planned f = f ∙ ap (λ q. parts_by (class_at T.variant q table) e.members) here ∙ parts_are T same e is table has
         ∙ map-map (λ x. x.members) (part T e) (filter (is_leader T e) e.members)
 
-  pub planned : (plans : List (Plan C)) (ps : List (List ℕ)) (ds : List C) → map (λ x. x.members) plans ≡ ps → map (λ x. x.change) plans ≡ ds
+  pub planned : (plans : List (Plan C)) {ps : List (List ℕ)} {ds : List C} → map (λ x. x.members) plans ≡ ps → map (λ x. x.change) plans ≡ ds
       → ps ≡ of_leaders (λ m. filter (same_change T e m) e.members) → ds ≡ of_leaders (λ m. change_of T m e.state) → plans_of plans ≡ plans_at T e
-  planned plans ps ds a b f g =
+  planned plans a b f g =
       pairs_are (λ m. filter (same_change T e m) e.members) (λ m. change_of T m e.state) (filter (is_leader T e) e.members) (plans_of plans)
-      (map-map (λ x. x.0) (λ (x : Plan C). (x.members, x.change)) plans ∙ a ∙ f)
-      (map-map (λ x. x.1) (λ (x : Plan C). (x.members, x.change)) plans ∙ b ∙ g)
+      (map-map (λ x. x.0) (λ (x : Plan C). (x.members, x.change)) plans ∙ a ∙ f) (map-map (λ x. x.1) (λ (x : Plan C). (x.members, x.change)) plans ∙ b ∙ g)

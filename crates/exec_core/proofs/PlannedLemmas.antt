@@ -71,8 +71,7 @@ module _ {S C : Type 0} (T : Trial S C) (same : IsSameTest T.meanings) (e : Exec
       ⊎_elim
       (λ (l : x < m). absurd (false≢true (ap not (sym (any_from (λ k. nat_lt k m && same_change T e k m) e.members x there.0
       (and_from _ _ (lt-ltb x m l) (subst (λ d. T.meanings.same d (change_of T m e.state) ≡ true) (same.sound _ _ there.1) (same.complete _))))) ∙ f.1)))
-      (λ (g : m ≤ x). let r : x ≡ m = omega arith in r)
-      (cases_lt x m)
+      (λ (g : m ≤ x). let r : x ≡ m = omega arith in r) (cases_lt x m)
 
   module _ (plans : List (Plan C)) (h : plans_of plans ≡ plans_at T e) where
     abbrev pair : Plan C → List ℕ × C

@@ -1,5 +1,6 @@
 -- From plans to readied children.
-use Rattle.std.proofs.Common.{◌≡◌, ℕ, List, [], ◌∷◌, ◌++◌, map, reverse, nat_eq, false, sym, ap, ◌∙◌, subst, ⊎_elim}
+use Rattle.std.proofs.Common.{◌≡◌, ℕ, List, [], ◌∷◌, ◌++◌, map, reverse, nat_eq, false, Option, Some, sym, ap, ◌∙◌, subst, ⊎_elim}
+use Rattle.std.specs.Option.{option_to_list}
 use Rattle.std.specs.List.{All, Contains, IsDistinct, sum_by}
 use Rattle.std.specs.List.Sorted.{IsPermutation}
 use Rattle.std.proofs.lemmas.List.{map-append}
@@ -12,7 +13,7 @@ use Rattle.std.proofs.lemmas.Map.Keys.{IsDistinct-head, IsDistinct-tail, IsDisti
 use Rattle.traces.specs.View.{View, IsLawful, Keeps, IsKnown, IsLive}
 use Rattle.traces.proofs.Cost.{sum_by-map}
 use Rattle.exec_core.specs.Held.{AreForksOf}
-use Rattle.exec_core.specs.Children.{seen, numbers_of, IsPlanned, IsReadied, AreReadying}
+use Rattle.exec_core.specs.Children.{seen, numbers_of, IsPlanned, AreReadying}
 use Rattle.exec_core.specs.Plans.{planned_of, states_of, plans_of, plan_weights, ArePrepared}
 use Rattle.exec_core.specs.declared.divide.Child.{Child}
 use Rattle.exec_core.specs.declared.plan.Plan.{Plan}
@@ -25,13 +26,11 @@ one_of : (xs ys : List ℕ) (y : ℕ) → IsDistinct nat_eq (xs ++ ys) → Conta
 one_of [] ys y d c = IsDistinct-cons nat_eq y [] tt distinct_none
 one_of (x ∷ xs) ys y d c =
     let h = All-from_recursion (λ z. nat_eq x z ≡ false) (xs ++ ys) (IsDistinct-head nat_eq x (xs ++ ys) d) in
-    IsDistinct-cons nat_eq x (xs ++ y ∷ [])
-    (recursion_from_All (λ z. nat_eq x z ≡ false) (xs ++ y ∷ []) (All-push (λ z. nat_eq x z ≡ false) xs y
+    IsDistinct-cons nat_eq x (xs ++ y ∷ []) (recursion_from_All (λ z. nat_eq x z ≡ false) (xs ++ y ∷ []) (All-push (λ z. nat_eq x z ≡ false) xs y
     (All-from_contains (λ z. nat_eq x z ≡ false) xs (λ z i. All-contains (λ w. nat_eq x w ≡ false) (xs ++ ys) z h (Contains-append_left xs ys z i)))
-    (All-contains (λ w. nat_eq x w ≡ false) (xs ++ ys) y h (Contains-append_right xs ys y c))))
-    (one_of xs ys y (IsDistinct-tail nat_eq x (xs ++ ys) d) c)
+    (All-contains (λ w. nat_eq x w ≡ false) (xs ++ ys) y h (Contains-append_right xs ys y c)))) (one_of xs ys y (IsDistinct-tail nat_eq x (xs ++ ys) d) c)
 
-module _ {M S W C : Type 0} (V : View M S W C) (lawful : IsLawful V) (a b : M) (own : S) (o : V.is_out a own) (ps : List (Child S C))
+module _ {M S W C : Type 0} {V : View M S W C} (lawful : IsLawful V) {a b : M} {own : S} (o : V.is_out a own) (ps : List (Child S C))
     (f : AreForksOf V a own b (states_of ps)) (k : Keeps V a b []) (q : Child S C) (qs : q.state ≡ own) where
   pub forks_apart : IsDistinct nat_eq (map V.number (states_of ps) ++ V.out_numbers a)
   forks_apart = IsDistinct-IsPermutation nat_eq flips _ _ (IsPermutation-sym _ _ f.numbers) (lawful.distinct b)
@@ -52,7 +51,7 @@ module _ {M S W C : Type 0} (V : View M S W C) (lawful : IsLawful V) (a b : M) (
   pub states_out : All (V.is_out b) (states_of (ps ++ q ∷ []))
   states_out = subst (All (V.is_out b)) (sym states_are) (All-push (V.is_out b) (states_of ps) own f.out (k.out own o (nowhere _)))
 
-  module _ (live : IsLive V a own) (plans : List (List ℕ × C)) (known : All (λ x. IsKnown (V.meanings a) (V.stands a own) x.1) plans)
+  module _ (live : IsLive V a own) {plans : List (List ℕ × C)} (known : All (λ x. IsKnown (V.meanings a) (V.stands a own) x.1) plans)
       (planned : IsPermutation plans (map planned_of (ps ++ q ∷ []))) where
     stands_same : (p : Child S C) → Contains (ps ++ q ∷ []) p → V.stands b p.state ≡ V.stands a own
     stands_same p i = ⊎_elim
@@ -62,7 +61,7 @@ module _ {M S W C : Type 0} (V : View M S W C) (lawful : IsLawful V) (a b : M) (
 
     all_known : (p : Child S C) → Contains (ps ++ q ∷ []) p → IsKnown (V.meanings a) (V.stands a own) p.change
     all_known p i = All-contains (λ x. IsKnown (V.meanings a) (V.stands a own) x.1) (map planned_of (ps ++ q ∷ [])) (planned_of p)
-        (All-permutation (λ x. IsKnown (V.meanings a) (V.stands a own) x.1) plans _ planned known) (contains_map planned_of (ps ++ q ∷ []) p i)
+        (All-permutation (λ x. IsKnown (V.meanings a) (V.stands a own) x.1) _ _ planned known) (contains_map planned_of (ps ++ q ∷ []) p i)
 
     pub children_planned : All (IsPlanned V b) (ps ++ q ∷ [])
     children_planned = All-from_contains (IsPlanned V b) (ps ++ q ∷ []) (λ p i. record {
@@ -72,7 +71,7 @@ module _ {M S W C : Type 0} (V : View M S W C) (lawful : IsLawful V) (a b : M) (
           (subst (λ A. IsKnown A (V.stands a own) p.change) (sym k.meanings) (all_known p i));
     })
 
-    module _ (c : M) (rs : List (Child S C)) (r : AreReadying V b c (ps ++ q ∷ []) [] rs) where
+    module _ {c : M} {rs : List (Child S C)} (r : AreReadying V b c (ps ++ q ∷ []) [] rs) where
       seen_moved : IsPermutation (map (seen V c) rs) (map (seen V b) (ps ++ q ∷ []))
       seen_moved = subst (IsPermutation (map (seen V c) rs)) r.seen (IsPermutation-reverse (map (seen V c) rs))
 
@@ -80,14 +79,12 @@ module _ {M S W C : Type 0} (V : View M S W C) (lawful : IsLawful V) (a b : M) (
       numbers_moved =
           subst (λ xs. IsPermutation xs (map V.number (states_of ps) ++ V.number own ∷ [])) (map-map (λ s. s.number) (seen V c) rs)
           (subst (IsPermutation (map (λ s. s.number) (map (seen V c) rs))) (map-map (λ s. s.number) (seen V b) (ps ++ q ∷ [])
-          ∙ sym (map-map V.number (λ p. p.state) (ps ++ q ∷ [])) ∙ numbers_are)
-          (IsPermutation-map (λ s. s.number) (map (seen V c) rs) (map (seen V b) (ps ++ q ∷ [])) seen_moved))
+          ∙ sym (map-map V.number (λ p. p.state) (ps ++ q ∷ [])) ∙ numbers_are) (IsPermutation-map (λ s. s.number) _ _ seen_moved))
 
       not_ours : (j : ℕ) → Contains (V.out_numbers a) j → (Contains (V.number own ∷ []) j → ⊥) → Contains (numbers_of V (ps ++ q ∷ [])) j → ⊥
       not_ours j i ne h = ⊎_elim
           (λ (x : Contains (map V.number (states_of ps)) j). apart_lists (map V.number (states_of ps)) (V.out_numbers a) j forks_apart x i)
-          ne
-          (Contains-append_cases (map V.number (states_of ps)) (V.number own ∷ []) j
+          ne (Contains-append_cases (map V.number (states_of ps)) (V.number own ∷ []) j
           (subst (λ xs. Contains xs j) (sym (map-map V.number (λ p. p.state) (ps ++ q ∷ [])) ∙ numbers_are) h))
 
       kept : Keeps V a c (V.number own ∷ [])
@@ -102,41 +99,40 @@ module _ {M S W C : Type 0} (V : View M S W C) (lawful : IsLawful V) (a b : M) (
       prepared = record {
         readied = r.readied;
         distinct = r.distinct;
-        planned = IsPermutation-trans plans (map planned_of (ps ++ q ∷ [])) (map planned_of rs) planned
+        planned = IsPermutation-trans _ _ _ planned
             (IsPermutation-sym _ _ (subst (λ xs. IsPermutation xs (map planned_of (ps ++ q ∷ []))) (map-map (λ s. (s.members, s.change)) (seen V c) rs)
             (subst (IsPermutation (map (λ s. (s.members, s.change)) (map (seen V c) rs))) (map-map (λ s. (s.members, s.change)) (seen V b) (ps ++ q ∷ []))
-            (IsPermutation-map (λ s. (s.members, s.change)) (map (seen V c) rs) (map (seen V b) (ps ++ q ∷ [])) seen_moved))));
+            (IsPermutation-map (λ s. (s.members, s.change)) _ _ seen_moved))));
         stand = All-from_contains (λ p. V.stands c p.state ≡ V.stands a own) rs (λ p i.
             All-contains (λ s. s.stands ≡ V.stands a own) (map (seen V b) (ps ++ q ∷ [])) (seen V c p)
             (All-map (λ s. s.stands ≡ V.stands a own) (seen V b) (ps ++ q ∷ [])
             (All-from_contains (λ x. V.stands b x.state ≡ V.stands a own) (ps ++ q ∷ []) stands_same))
             (Contains-permutation (map (seen V c) rs) (map (seen V b) (ps ++ q ∷ [])) (seen V c p) seen_moved (contains_map (seen V c) rs p i)));
-        numbers = subst (λ xs. IsPermutation (numbers_of V rs ++ V.out_numbers a) (V.number own ∷ xs)) (sym r.out)
-            (IsPermutation-trans (numbers_of V rs ++ V.out_numbers a) ((map V.number (states_of ps) ++ V.number own ∷ []) ++ V.out_numbers a) (V.number own
-            ∷ V.out_numbers b)
-            (IsPermutation-append_left (V.out_numbers a) (numbers_of V rs) (map V.number (states_of ps) ++ V.number own ∷ []) numbers_moved)
-            (IsPermutation-trans ((map V.number (states_of ps) ++ V.number own ∷ []) ++ V.out_numbers a) (V.number own
-            ∷ (map V.number (states_of ps) ++ V.out_numbers a)) (V.number own ∷ V.out_numbers b)
-            (to_front (map V.number (states_of ps)) (V.number own) (V.out_numbers a))
-            (IsPermutation-cons (V.number own) _ _ f.numbers)));
+        numbers = subst (λ xs. IsPermutation (numbers_of V rs ++ V.out_numbers a) (V.number own ∷ xs)) (sym r.out) (IsPermutation-trans _ _ _
+            (IsPermutation-append_left (V.out_numbers a) _ _ numbers_moved) (IsPermutation-trans _ _ _
+            (to_front (map V.number (states_of ps)) (V.number own) (V.out_numbers a)) (IsPermutation-cons (V.number own) _ _ f.numbers)));
         fresh = λ j i ne h. not_ours j i ne (subst (λ xs. Contains xs j) (sym (sym (map-map V.number (λ p. p.state) (ps ++ q ∷ [])) ∙ numbers_are))
             (Contains-permutation (numbers_of V rs) (map V.number (states_of ps) ++ V.number own ∷ []) j numbers_moved h));
         keeps = kept;
       }
 
-pub plans_moved : {S C : Type 0} (qs : List (Plan C)) (l : Plan C) (all : List (Plan C)) (ps : List (Child S C)) (q : Child S C) → all ≡ qs ++ l ∷ []
-    → map planned_of ps ≡ reverse (plans_of qs)
-    → planned_of q ≡ (l.members, l.change) → IsPermutation (plans_of all) (map planned_of (ps ++ q ∷ []))
-plans_moved {S} {C} qs l all ps q e p t =
-    let x : List ℕ × C = (l.members, l.change) in
-    subst (λ xs. IsPermutation xs (map planned_of (ps ++ q ∷ []))) (sym (ap plans_of e ∙ map-append (λ (y : Plan C). (y.members, y.change)) qs (l ∷ [])))
-    (subst (IsPermutation (plans_of qs ++ x ∷ [])) (sym (map-append planned_of ps (q ∷ []) ∙ ap (λ y. map planned_of ps ++ y ∷ []) t
-    ∙ ap (λ ys. ys ++ x ∷ []) p))
-    (IsPermutation-append_left (x ∷ []) (plans_of qs) (reverse (plans_of qs)) (IsPermutation-reverse (plans_of qs))))
+-- the child of the last plan keeps the state of its own
+abbrev pub own_child : {S C : Type 0} → S → Plan C → Child S C
+own_child own l = record { state = own; members = l.members; change = l.change }
 
-pub weights_are : {S C : Type 0} (weight : C → ℕ) (plans : List (List ℕ × C)) (ps : List (Child S C)) → IsPermutation plans (map planned_of ps)
+pub plans_moved : {S C : Type 0} (qs : List (Plan C)) {all : List (Plan C)} {l : Plan C} (ps : List (Child S C)) {last : Option (Plan C)} (own : S)
+    → all ≡ qs ++ option_to_list last → last ≡ Some l → map planned_of ps ≡ reverse (plans_of qs)
+    → IsPermutation (plans_of all) (map planned_of (ps ++ own_child own l ∷ []))
+plans_moved {S} {C} qs {all} {l} ps own e s p =
+    let x : List ℕ × C = (l.members, l.change) in let q : Child S C = own_child own l in
+    let split : all ≡ qs ++ l ∷ [] = e ∙ ap (λ r. qs ++ option_to_list r) s in
+    subst (λ xs. IsPermutation xs (map planned_of (ps ++ q ∷ []))) (sym (ap plans_of split ∙ map-append (λ (y : Plan C). (y.members, y.change)) qs (l ∷ [])))
+    (subst (IsPermutation (plans_of qs ++ x ∷ [])) (sym (map-append planned_of ps (q ∷ []) ∙ ap (λ ys. ys ++ x ∷ []) p))
+    (IsPermutation-append_left (x ∷ []) _ _ (IsPermutation-reverse (plans_of qs))))
+
+pub weights_are : {S C : Type 0} (weight : C → ℕ) {plans : List (List ℕ × C)} (ps : List (Child S C)) → IsPermutation plans (map planned_of ps)
     → sum_by (λ p. weight p.change) ps ≡ plan_weights weight plans
-weights_are weight plans ps p = sym (sum_by-map (λ x. weight x.1) planned_of ps) ∙ sum_by-IsPermutation (λ x. weight x.1) plans (map planned_of ps) p
+weights_are weight {plans} ps p = sym (sum_by-map (λ x. weight x.1) planned_of ps) ∙ sum_by-IsPermutation (λ x. weight x.1) plans (map planned_of ps) p
 
 pub left_distinct : (xs ys : List ℕ) → IsDistinct nat_eq (xs ++ ys) → IsDistinct nat_eq xs
 left_distinct [] ys d = distinct_none
@@ -148,20 +144,3 @@ left_distinct (x ∷ xs) ys d = IsDistinct-cons nat_eq x xs
 pub right_distinct : (xs ys : List ℕ) → IsDistinct nat_eq (xs ++ ys) → IsDistinct nat_eq ys
 right_distinct [] ys d = d
 right_distinct (x ∷ xs) ys d = right_distinct xs ys (IsDistinct-tail nat_eq x (xs ++ ys) d)
-
-module _ {M S W C : Type 0} (V : View M S W C) (b c d : M) (all rest done : List (Child S C)) (r : AreReadying V b c all rest done) where
-  pub rest_out : All (V.is_out c) (states_of rest)
-  rest_out = All-map (V.is_out c) (λ p. p.state) rest (All-from_contains (λ p. V.is_out c p.state) rest
-      (λ p i. (All-contains (IsPlanned V c) rest p r.planned i).out))
-
-  pub rest_distinct : IsDistinct nat_eq (map V.number (states_of rest))
-  rest_distinct = subst (IsDistinct nat_eq) (sym (map-map V.number (λ p. p.state) rest)) (left_distinct (numbers_of V rest) (numbers_of V done) r.distinct)
-
-  pub done_distinct : IsDistinct nat_eq (map V.number (states_of done))
-  done_distinct = subst (IsDistinct nat_eq) (sym (map-map V.number (λ p. p.state) done)) (right_distinct (numbers_of V rest) (numbers_of V done) r.distinct)
-
-  pub done_out : Keeps V c d (map V.number (states_of rest)) → All (V.is_out d) (states_of done)
-  done_out k = All-map (V.is_out d) (λ p. p.state) done (All-from_contains (λ p. V.is_out d p.state) done (λ p i.
-      k.out p.state ((All-contains (IsReadied V c) done p r.readied i).planned.out)
-      (λ h. apart_lists (numbers_of V rest) (numbers_of V done) (V.number p.state) r.distinct
-      (subst (λ xs. Contains xs (V.number p.state)) (map-map V.number (λ x. x.state) rest) h) (contains_map (λ x. V.number x.state) done p i))))

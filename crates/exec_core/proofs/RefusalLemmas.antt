@@ -53,8 +53,7 @@ module _ {M S W C : Type 0} (V : View M S W C) where
 
     both_distinct : IsDistinct nat_eq (numbers_of V fore ++ numbers_of V back)
     both_distinct = IsDistinct-IsPermutation nat_eq flips (numbers_of V fore ++ reverse (numbers_of V back)) (numbers_of V fore ++ numbers_of V back)
-        (IsPermutation-append_right (numbers_of V fore) (reverse (numbers_of V back)) (numbers_of V back)
-        (IsPermutation-sym _ _ (IsPermutation-reverse (numbers_of V back))))
+        (IsPermutation-append_right (numbers_of V fore) _ _ (IsPermutation-sym _ _ (IsPermutation-reverse (numbers_of V back))))
         (left_distinct (numbers_of V fore ++ reverse (numbers_of V back)) (V.number x.state ∷ []) (subst (IsDistinct nat_eq) numbers_are_of d))
 
     in_all : (p : Child S C) → Contains (fore ++ reverse back) p → V.is_out c p.state
@@ -86,7 +85,7 @@ module _ {M S W C : Type 0} (V : View M S W C) where
       others_numbers : IsPermutation (numbers_of V fore ++ numbers_of V back) (numbers_of V (fore ++ reverse back))
       others_numbers = subst (IsPermutation (numbers_of V fore ++ numbers_of V back))
           (sym (map-append (λ y. V.number y.state) fore (reverse back) ∙ ap (λ ns. numbers_of V fore ++ ns) (map_reverse (λ y. V.number y.state) back)))
-          (IsPermutation-append_right (numbers_of V fore) (numbers_of V back) (reverse (numbers_of V back)) (IsPermutation-reverse (numbers_of V back)))
+          (IsPermutation-append_right (numbers_of V fore) _ _ (IsPermutation-reverse (numbers_of V back)))
 
       not_fore : (j : ℕ) → (Contains (numbers_of V (fore ++ reverse back)) j → ⊥) → Contains (map V.number (states_of fore)) j → ⊥
       not_fore j ne h = ne (Contains-permutation (numbers_of V fore ++ numbers_of V back) (numbers_of V (fore ++ reverse back)) j others_numbers
@@ -102,14 +101,12 @@ module _ {M S W C : Type 0} (V : View M S W C) where
         last = x;
         all_are = are;
         is = refl;
-        numbers = IsPermutation-trans (V.out_numbers c) (numbers_of V fore ++ V.out_numbers e) (numbers_of V (fore ++ reverse back) ++ V.out_numbers f)
-            (subst (λ ns. IsPermutation (V.out_numbers c) (ns ++ V.out_numbers e)) (states_numbers fore) p)
-            (IsPermutation-trans (numbers_of V fore ++ V.out_numbers e) ((numbers_of V fore ++ numbers_of V back) ++ V.out_numbers f)
-            (numbers_of V (fore ++ reverse back) ++ V.out_numbers f)
-            (subst (IsPermutation (numbers_of V fore ++ V.out_numbers e)) (sym (append_assoc (numbers_of V fore) (numbers_of V back) (V.out_numbers f)))
-            (IsPermutation-append_right (numbers_of V fore) (V.out_numbers e) (numbers_of V back ++ V.out_numbers f)
+        numbers = IsPermutation-trans _ _ _ (subst (λ ns. IsPermutation (V.out_numbers c) (ns ++ V.out_numbers e)) (states_numbers fore) p)
+            (IsPermutation-trans _ _
+            _ (subst (IsPermutation (numbers_of V fore ++ V.out_numbers e)) (sym (append_assoc (numbers_of V fore) (numbers_of V back) (V.out_numbers f)))
+            (IsPermutation-append_right (numbers_of V fore) _ _
             (subst (λ ns. IsPermutation (V.out_numbers e) (ns ++ V.out_numbers f)) (states_numbers back) q)))
-            (IsPermutation-append_left (V.out_numbers f) (numbers_of V fore ++ numbers_of V back) (numbers_of V (fore ++ reverse back)) others_numbers));
+            (IsPermutation-append_left (V.out_numbers f) _ _ others_numbers));
         keeps = record {
           meanings = kq.meanings ∙ kp.meanings;
           stays = lawful.stays_trans c e f kp.stays kq.stays;
@@ -119,7 +116,7 @@ module _ {M S W C : Type 0} (V : View M S W C) where
       }
 
   -- the children through a refused `ready_all` are out, and have different numbers
-  module _ (b c : M) (all rest done : List (Child S C)) (r : AreReadying V b c all rest done) where
+  module _ {b c : M} {all rest done : List (Child S C)} (r : AreReadying V b c all rest done) where
     pub readying_out : All (λ p. V.is_out c p.state) (rest ++ reverse done)
     readying_out = All-from_contains (λ p. V.is_out c p.state) (rest ++ reverse done) (λ p i. ⊎_elim
         (λ (h : Contains rest p). (All-contains (IsPlanned V c) rest p r.planned h).out)
@@ -131,7 +128,7 @@ module _ {M S W C : Type 0} (V : View M S W C) where
     readying_distinct = IsDistinct-IsPermutation nat_eq flips (numbers_of V rest ++ numbers_of V done) (numbers_of V (rest ++ reverse done))
         (subst (IsPermutation (numbers_of V rest ++ numbers_of V done))
         (sym (map-append (λ y. V.number y.state) rest (reverse done) ∙ ap (λ ns. numbers_of V rest ++ ns) (map_reverse (λ y. V.number y.state) done)))
-        (IsPermutation-append_right (numbers_of V rest) (numbers_of V done) (reverse (numbers_of V done)) (IsPermutation-reverse (numbers_of V done))))
+        (IsPermutation-append_right (numbers_of V rest) _ _ (IsPermutation-reverse (numbers_of V done))))
         r.distinct
 
     pub readying_length : length rest + length done ≡ length all
@@ -144,7 +141,7 @@ module _ {M S W C : Type 0} (V : View M S W C) where
     seen_all : map (seen V c) (rest ++ reverse done) ≡ map (seen V b) all
     seen_all = map-append (seen V c) rest (reverse done) ∙ ap (λ xs. map (seen V c) rest ++ xs) (map_reverse (seen V c) done) ∙ r.seen
 
-module _ {M S W C : Type 0} (V : View M S W C) (lawful : IsLawful V) (a b : M) (own : S) (o : V.is_out a own) (ps : List (Child S C))
+module _ {M S W C : Type 0} {V : View M S W C} (lawful : IsLawful V) {a b : M} {own : S} (o : V.is_out a own) (ps : List (Child S C))
     (f : AreForksOf V a own b (states_of ps)) (k : Keeps V a b []) where
   abbrev forked : List ℕ
   forked = map V.number (states_of ps)
@@ -154,11 +151,10 @@ module _ {M S W C : Type 0} (V : View M S W C) (lawful : IsLawful V) (a b : M) (
       h i
 
   same_out : (c : M) → IsPermutation (V.out_numbers b) (forked ++ V.out_numbers c) → IsPermutation (V.out_numbers a) (V.out_numbers c)
-  same_out c p = cancel_front forked (V.out_numbers a) (V.out_numbers c)
-      (IsPermutation-trans (forked ++ V.out_numbers a) (V.out_numbers b) (forked ++ V.out_numbers c) f.numbers p)
+  same_out c p = cancel_front forked (V.out_numbers a) (V.out_numbers c) (IsPermutation-trans _ _ _ f.numbers p)
 
-  pub fork_refused : (c : M) → IsPermutation (V.out_numbers b) (forked ++ V.out_numbers c) → Keeps V b c forked → IsBack V a c own own
-  fork_refused c p kc =
+  pub fork_refused : {c : M} → IsPermutation (V.out_numbers b) (forked ++ V.out_numbers c) → Keeps V b c forked → IsBack V a c own own
+  fork_refused {c} p kc =
       let n = forked_apart (V.number own) (lawful.among a own o) in
       record {
         number = refl;
@@ -173,22 +169,19 @@ module _ {M S W C : Type 0} (V : View M S W C) (lawful : IsLawful V) (a b : M) (
         };
       }
 
-  module _ (q : Child S C) (qs : q.state ≡ own) (c e : M) (rest done : List (Child S C)) (r : AreReadying V b c (ps ++ q ∷ []) rest done) (s : S)
+  module _ (q : Child S C) (qs : q.state ≡ own) {c e : M} {rest done : List (Child S C)} (r : AreReadying V b c (ps ++ q ∷ []) rest done) {s : S}
       (g : IsGivenBack V c e (rest ++ reverse done) s) where
     parted : (map (seen V c) g.others ≡ map (seen V b) ps) × (seen V c g.last ≡ seen V b q)
     parted = ends (map (seen V c) g.others) (map (seen V b) ps) (seen V c g.last) (seen V b q)
-        (sym (map-append (seen V c) g.others (g.last ∷ [])) ∙ ap (map (seen V c)) (sym g.all_are) ∙ seen_all V b c (ps ++ q ∷ []) rest done r
-        ∙ map-append (seen V b) ps (q ∷ []))
+        (sym (map-append (seen V c) g.others (g.last ∷ [])) ∙ ap (map (seen V c)) (sym g.all_are) ∙ seen_all V r ∙ map-append (seen V b) ps (q ∷ []))
 
     others_are : numbers_of V g.others ≡ forked
     others_are = sym (map-map (λ (x : Seen W C). x.number) (seen V c) g.others) ∙ ap (map (λ (x : Seen W C). x.number)) parted.0
-        ∙ map-map (λ (x : Seen W C). x.number) (seen V b) ps
-        ∙ sym (map-map V.number (λ p. p.state) ps)
+        ∙ map-map (λ (x : Seen W C). x.number) (seen V b) ps ∙ sym (map-map V.number (λ p. p.state) ps)
 
     last_out : V.is_out c s
     last_out = subst (V.is_out c) g.is (All-contains (λ p. V.is_out c p.state) (g.others ++ g.last ∷ []) g.last
-        (subst (All (λ p. V.is_out c p.state)) g.all_are (readying_out V b c (ps ++ q ∷ []) rest done r))
-        (Contains-push g.others g.last))
+        (subst (All (λ p. V.is_out c p.state)) g.all_are (readying_out V r)) (Contains-push g.others g.last))
 
     own_number : V.number s ≡ V.number own
     own_number = ap V.number (sym g.is) ∙ ap (λ (x : Seen W C). x.number) parted.1 ∙ ap V.number qs
@@ -202,9 +195,8 @@ module _ {M S W C : Type 0} (V : View M S W C) (lawful : IsLawful V) (a b : M) (
     not_readied : (j : ℕ) → Contains (V.out_numbers a) j → (Contains (V.number own ∷ []) j → ⊥) → Contains (numbers_of V (ps ++ q ∷ [])) j → ⊥
     not_readied j i ne h = ⊎_elim
         (λ (x : Contains forked j). forked_apart j i x)
-        ne
-        (Contains-append_cases forked (V.number own ∷ []) j
-        (subst (λ ns. Contains ns j) (sym (map-map V.number (λ p. p.state) (ps ++ q ∷ [])) ∙ numbers_are V lawful a b own o ps f k q qs) h))
+        ne (Contains-append_cases forked (V.number own ∷ []) j
+        (subst (λ ns. Contains ns j) (sym (map-map V.number (λ p. p.state) (ps ++ q ∷ [])) ∙ numbers_are lawful o ps f k q qs) h))
 
     pub ready_refused : IsBack V a e own s
     ready_refused =

@@ -39,50 +39,47 @@ module _ {M S W C : Type 0} (V : View M S W C) (m : M) (budget : ℕ) where
     all_over = All-nil _;
   }
 
-  -- the last one left is put into the front or the back of the settled ones
+-- the last one left is put into the front or the back of the settled ones
+module _ {S : Type 0} where
   to_live : (fore live over : List (Concrete S)) (l : Concrete S) → IsPermutation ((fore ++ l ∷ []) ++ (live ++ over)) (fore ++ ((live ++ l ∷ []) ++ over))
   to_live fore live over l =
-      subst (λ xs. IsPermutation xs (fore ++ ((live ++ l ∷ []) ++ over))) (sym (append_assoc fore (l ∷ []) (live ++ over)))
-      (IsPermutation-append_right fore (l ∷ (live ++ over)) ((live ++ l ∷ []) ++ over)
-      (subst (IsPermutation (l ∷ (live ++ over))) (sym (append_assoc live (l ∷ []) over))
-      (IsPermutation-sym (live ++ (l ∷ over)) (l ∷ (live ++ over)) (IsPermutation-middle live l over))))
+      subst (λ xs. IsPermutation xs (fore ++ ((live ++ l ∷ []) ++ over))) (sym (append_assoc fore (l ∷ []) (live ++ over))) (IsPermutation-append_right fore _ _
+      (subst (IsPermutation (l ∷ (live ++ over))) (sym (append_assoc live (l ∷ []) over)) (IsPermutation-sym _ _ (IsPermutation-middle live l over))))
 
   to_over : (fore live over : List (Concrete S)) (l : Concrete S) → IsPermutation ((fore ++ l ∷ []) ++ (live ++ over)) (fore ++ (live ++ (over ++ l ∷ [])))
   to_over fore live over l =
-      subst (λ xs. IsPermutation xs (fore ++ (live ++ (over ++ l ∷ [])))) (sym (append_assoc fore (l ∷ []) (live ++ over)))
-      (IsPermutation-append_right fore (l ∷ (live ++ over)) (live ++ (over ++ l ∷ []))
+      subst (λ xs. IsPermutation xs (fore ++ (live ++ (over ++ l ∷ [])))) (sym (append_assoc fore (l ∷ []) (live ++ over))) (IsPermutation-append_right fore _ _
       (subst (IsPermutation (l ∷ (live ++ over))) (append_assoc live over (l ∷ [])) (IsPermutation-append_comm (l ∷ []) (live ++ over))))
 
-  pub settling_more : (all rest fore lives_before lives lives_then ended_before ended ended_then : List (Concrete S)) (l : Concrete S)
-      → AreSettling all rest lives_before lives ended_before ended → rest ≡ fore ++ l ∷ []
+module _ {M S W C : Type 0} {V : View M S W C} {m : M} {budget : ℕ} where
+  pub settling_more : {all rest lives_before lives lives_then ended_before ended ended_then : List (Concrete S)} (fore : List (Concrete S)) (l : Concrete S)
+      → AreSettling V m budget all rest lives_before lives ended_before ended → rest ≡ fore ++ l ∷ []
       → (goes_on V m budget l ≡ true → (lives_then ≡ lives ++ l ∷ []) × (ended_then ≡ ended))
       → (goes_on V m budget l ≡ false → (lives_then ≡ lives) × (ended_then ≡ ended ++ l ∷ []))
-      → AreSettling all fore lives_before lives_then ended_before ended_then
-  settling_more all rest fore lives_before lives lives_then ended_before ended ended_then l i e f g =
+      → AreSettling V m budget all fore lives_before lives_then ended_before ended_then
+  settling_more {all} {lives_before = lives_before} {ended_before = ended_before} fore l i e f g =
       let p = subst (λ xs. IsPermutation all (xs ++ (i.live ++ i.over))) e i.moved in
-      on_bool (goes_on V m budget l)
-      (λ t. let h = f t in record {
+      on_bool (goes_on V m budget l) (λ t. let h = f t in record {
         live = i.live ++ l ∷ [];
         over = i.over;
         lives_are = h.0 ∙ ap (λ xs. xs ++ l ∷ []) i.lives_are ∙ append_assoc lives_before i.live (l ∷ []);
         ended_are = h.1 ∙ i.ended_are;
-        moved = IsPermutation-trans all _ _ p (to_live fore i.live i.over l);
+        moved = IsPermutation-trans _ _ _ p (to_live fore i.live i.over l);
         all_live = All-push (λ x. goes_on V m budget x ≡ true) i.live l i.all_live t;
         all_over = i.all_over;
-      })
-      (λ n. let h = g n in record {
+      }) (λ n. let h = g n in record {
         live = i.live;
         over = i.over ++ l ∷ [];
         lives_are = h.0 ∙ i.lives_are;
         ended_are = h.1 ∙ ap (λ xs. xs ++ l ∷ []) i.ended_are ∙ append_assoc ended_before i.over (l ∷ []);
-        moved = IsPermutation-trans all _ _ p (to_over fore i.live i.over l);
+        moved = IsPermutation-trans _ _ _ p (to_over fore i.live i.over l);
         all_live = i.all_live;
         all_over = All-push (λ x. goes_on V m budget x ≡ false) i.over l i.all_over n;
       })
 
-  pub settled : (all rest lives_before lives ended_before ended : List (Concrete S)) → AreSettling all rest lives_before lives ended_before ended → rest ≡ []
-      → AreSettledAfter V m budget all lives_before lives ended_before ended
-  settled all rest lives_before lives ended_before ended i e = record {
+  pub settled : {all rest lives_before lives ended_before ended : List (Concrete S)} → AreSettling V m budget all rest lives_before lives ended_before ended
+      → rest ≡ [] → AreSettledAfter V m budget all lives_before lives ended_before ended
+  settled {all} i e = record {
     live = i.live;
     over = i.over;
     lives_are = i.lives_are;

@@ -32,13 +32,11 @@ all_head R x xs a y (i, l, e) = subst (R x) e (a 0 (suc i) y (omega arith) (omeg
 module _ {X : Type 0} (same : X → X → Bool) (sound : (x y : X) → same x y ≡ true → x ≡ y) (complete : (x : X) → same x x ≡ true) (lt : X → X → Bool) where
   counted : (x : X) (xs : List X) → 0 < count_by (same x) xs → Contains xs x
   counted x [] h = absurd (let l : 0 < 0 = h in omega arith)
-  counted x (y ∷ ys) h = on_bool (same x y)
-      (λ t. subst (Contains (y ∷ ys)) (sym (sound x y t)) (contains_here y ys))
+  counted x (y ∷ ys) h = on_bool (same x y) (λ t. subst (Contains (y ∷ ys)) (sym (sound x y t)) (contains_here y ys))
       (λ f. contains_there y x ys (counted x ys (subst (λ n. 0 < n) (count_no (same x) y ys f) h)))
 
   counts_tail : (x y : X) (xs ys : List X) → count_by (same x) (y ∷ xs) ≡ count_by (same x) (y ∷ ys) → count_by (same x) xs ≡ count_by (same x) ys
-  counts_tail x y xs ys h = on_bool (same x y)
-      (λ t. let a = count_yes (same x) y xs t in let b = count_yes (same x) y ys t in omega arith)
+  counts_tail x y xs ys h = on_bool (same x y) (λ t. let a = count_yes (same x) y xs t in let b = count_yes (same x) y ys t in omega arith)
       (λ f. sym (count_no (same x) y xs f) ∙ h ∙ count_no (same x) y ys f)
 
   pub sorted_same : (ys zs : List X) → AllPairs (λ a b. lt b a ≡ false) ys → AllPairs (λ a b. lt a b ≡ true) zs
@@ -52,8 +50,7 @@ module _ {X : Type 0} (same : X → X → Bool) (sound : (x y : X) → same x y 
       let e : y ≡ z = ⊎_elim (λ (p : y ≡ z). p)
       (λ (c : Contains ys z). ⊎_elim (λ (p : z ≡ y). sym p)
       (λ (d : Contains zs y). absurd (true≢false (sym (all_head (λ u v. lt u v ≡ true) z zs b y d) ∙ all_head (λ u v. lt v u ≡ false) y ys a z c)))
-      (contains_cases z y zs there))
-      (contains_cases y z ys back) in
+      (contains_cases z y zs there)) (contains_cases y z ys back) in
       let tails = sorted_same ys zs (all_tail (λ u v. lt v u ≡ false) y ys a) (all_tail (λ u v. lt u v ≡ true) z zs b)
       (λ x. counts_tail x y ys zs (h x ∙ ap (λ w. count_by (same x) (w ∷ zs)) (sym e))) in
       ap (λ w. w ∷ ys) e ∙ ap (λ ws. z ∷ ws) tails
@@ -74,8 +71,7 @@ level : (a c d : ℕ) → c < d → is_lt (pair_cmp (a, c) (a, d)) ≡ true
 level a c d h = rw (le-ltb a a (omega arith), eq-eqb a a refl, lt-ltb c d h) refl
 
 pub earlier_before : (s t : ℕ × List ℕ) → IsEarlier s t → before s t ≡ true
-earlier_before s t e = ⊎_elim
-    (λ l. lower s.0 t.0 (slice_index s.1 0) (slice_index t.1 0) l)
+earlier_before s t e = ⊎_elim (λ l. lower s.0 t.0 (slice_index s.1 0) (slice_index t.1 0) l)
     (λ (g : t.0 ≤ s.0). let f = e.number in let p : s.0 ≡ t.0 = omega arith in
     subst (λ n. is_lt (pair_cmp (s.0, slice_index s.1 0) (n, slice_index t.1 0)) ≡ true) p (level s.0 (slice_index s.1 0) (slice_index t.1 0) (e.mutant p)))
     (cases_lt s.0 t.0)
@@ -111,5 +107,5 @@ pub in_order_same : (xs ys : List Split) (ordered : List (ℕ × List ℕ)) → 
 in_order_same xs ys ordered p q o up =
     sorted_same same_split same_sound same_complete before (map split_seen ys) ordered (none_before ys up)
     (λ i j d h l. earlier_before (get_or ordered i d) (get_or ordered j d) (o i j d h l))
-    (λ x. sum_by-IsPermutation (λ s. cond (same_split x s) 1 0) (map split_seen xs) (map split_seen ys) (IsPermutation-map split_seen xs ys p)
+    (λ x. sum_by-IsPermutation (λ s. cond (same_split x s) 1 0) (map split_seen xs) (map split_seen ys) (IsPermutation-map split_seen _ _ p)
     ∙ sym (sum_by-IsPermutation (λ s. cond (same_split x s) 1 0) (map split_seen xs) ordered q))

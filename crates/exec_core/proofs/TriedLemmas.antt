@@ -23,8 +23,7 @@ or_true false = refl
 
 none_all : (x : ℕ) (xs : List ℕ) → list_any (λ c. c == x) xs ≡ false → All (λ y. nat_eq x y ≡ false) xs
 none_all x [] h = All-nil _
-none_all x (y ∷ ys) h = on_bool (y == x)
-    (λ t. absurd (true≢false (sym (rw t refl) ∙ h)))
+none_all x (y ∷ ys) h = on_bool (y == x) (λ t. absurd (true≢false (sym (rw t refl) ∙ h)))
     (λ f. All-cons (λ z. nat_eq x z ≡ false) y ys (flips x y ∙ f) (none_all x ys (sym (rw f refl) ∙ h)))
 
 -- a number that isn't there yet
@@ -57,12 +56,10 @@ module _ (v : ℕ → ℕ) (members : List ℕ) (is : IsMemberList members) wher
   none_new (suc d) i j x e l h t =
       let n = i + d in let p = none_new d i n x refl (omega arith) (λ k a b. h k a (omega arith)) t in
       ap firsts_to (let f : j ≡ n + 1 = omega arith in f)
-      ∙ firsts_left v members is n (omega arith) (leads v members is n x (firsts_to i) true (omega arith) (sym p) (sym (h n (omega arith) (omega arith))) t)
-      ∙ p
+      ∙ firsts_left v members is n (omega arith) (leads v members is n x (firsts_to i) true (omega arith) (sym p) (sym (h n (omega arith) (omega arith))) t) ∙ p
 
   there_now : (x : ℕ) (xs : List ℕ) → list_any (λ c. c == x) (with_number xs x) ≡ true
-  there_now x xs = on_bool (list_any (λ c. c == x) xs)
-      (λ t. ap (λ b. list_any (λ c. c == x) (if b then xs else xs ++ x ∷ [])) t ∙ t)
+  there_now x xs = on_bool (list_any (λ c. c == x) xs) (λ t. ap (λ b. list_any (λ c. c == x) (if b then xs else xs ++ x ∷ [])) t ∙ t)
       (λ n. ap (λ b. list_any (λ c. c == x) (if b then xs else xs ++ x ∷ [])) n ∙ any_more v members is x x xs
       ∙ rw (eq-eqb x x refl) (or_true (list_any (λ c. c == x) xs)))
 
@@ -109,8 +106,7 @@ module _ (v : ℕ → ℕ) (members touched : List ℕ) (is : IsMemberList membe
           (λ (p : 0 < v (get_or members k 0)). absurd (
           let r = a.after k b (omega arith) p in let s = lower i r.0 r.1 r.2 in let t = r.3 in
           let u = AllPairs-from_increasing members is.rising k found 0 c f in omega arith))
-          (λ (p : v (get_or members k 0) ≤ 0). omega arith)
-          (cases_lt 0 (v (get_or members k 0)))
+          (λ (p : v (get_or members k 0) ≤ 0). omega arith) (cases_lt 0 (v (get_or members k 0)))
 
       pub at_found : IsAt v members touched (i + 1) (found + 1)
       at_found = record {
@@ -131,5 +127,4 @@ module _ (v : ℕ → ℕ) (members touched : List ℕ) (is : IsMemberList membe
   pub at_end : (at : ℕ) → IsAt v members touched (length touched) at → (k : ℕ) → at ≤ k → k < length members → v (get_or members k 0) ≡ 0
   at_end at a k b c = ⊎_elim
       (λ (p : 0 < v (get_or members k 0)). absurd (let r = a.after k b c p in let s = r.1 in let t = r.2 in omega arith))
-      (λ (p : v (get_or members k 0) ≤ 0). omega arith)
-      (cases_lt 0 (v (get_or members k 0)))
+      (λ (p : v (get_or members k 0) ≤ 0). omega arith) (cases_lt 0 (v (get_or members k 0)))

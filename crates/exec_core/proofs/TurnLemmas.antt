@@ -25,19 +25,19 @@ use Rattle.exec_machine.proofs.Numbers.{flips}
 use Rattle.exec_core.proofs.Holding.{single, nowhere, keeps_none, keeps_more, All-from_contains}
 use Rattle.exec_core.proofs.ChildLemmas.{map_where, contains_map}
 
-module _ {M S W C : Type 0} (V : View M S W C) where
-  pub as_many_made : (a c : M) (e : Concrete S) (plans : List (List ℕ × C)) (before after : List (Concrete S)) → before ≡ []
+module _ {M S W C : Type 0} {V : View M S W C} where
+  pub as_many_made : {a c : M} {e : Concrete S} {plans : List (List ℕ × C)} {before after : List (Concrete S)} → before ≡ []
       → Divided V a e c plans before after → length after ≡ length plans
-  as_many_made a c e plans before after none d =
+  as_many_made {a} {c} {e} {plans} none d =
       let n = length_permutation (map (child_of V a e) plans) (map (execution_of V c) d.made) d.seen in
       let i = length_map (child_of V a e) plans in let j = length_map (execution_of V c) d.made in
       let k = ap length d.added in let l = ap (λ xs. length (xs ++ d.made)) none in omega arith
 
-  pub advanced : (a c : M) (budget : ℕ) (e : Concrete S) (plans : List (List ℕ × C)) (before made lives_before lives ended_before ended : List (Concrete S))
+  pub advanced : {a c : M} {budget : ℕ} {e : Concrete S} {plans : List (List ℕ × C)} {before made lives_before lives ended_before ended : List (Concrete S)}
       → before ≡ []
       → Divided V a e c plans before made → AreSettledAfter V c budget made lives_before lives ended_before ended
       → Advanced V a c budget e plans lives_before lives ended_before ended
-  advanced a c budget e plans before made lives_before lives ended_before ended none d s =
+  advanced {a} {c} {budget} {e} {plans} {before} {made} none d s =
       let same : made ≡ d.made = d.added ∙ ap (λ xs. xs ++ d.made) none in
       let moved : IsPermutation d.made (s.live ++ s.over) = subst (λ xs. IsPermutation xs (s.live ++ s.over)) same s.settled.moved in
       record {
@@ -47,24 +47,20 @@ module _ {M S W C : Type 0} (V : View M S W C) where
         ended_are = s.ended_are;
         all_live = s.settled.live;
         all_over = s.settled.over;
-        out = All-permutation (λ l. V.is_out c l.state) d.made (s.live ++ s.over) moved d.out;
-        seen = IsPermutation-trans (map (child_of V a e) plans) (map (execution_of V c) d.made) (map (execution_of V c) (s.live ++ s.over)) d.seen
-            (IsPermutation-map (execution_of V c) d.made (s.live ++ s.over) moved);
-        numbers = IsPermutation-trans (state_numbers V (s.live ++ s.over) ++ V.out_numbers a) (state_numbers V d.made ++ V.out_numbers a) (V.number e.state
-            ∷ V.out_numbers c)
-            (IsPermutation-append_left (V.out_numbers a) (state_numbers V (s.live ++ s.over)) (state_numbers V d.made)
-            (IsPermutation-sym (state_numbers V d.made) (state_numbers V (s.live ++ s.over))
-            (IsPermutation-map (λ l. V.number l.state) d.made (s.live ++ s.over) moved)))
+        out = All-permutation (λ l. V.is_out c l.state) _ _ moved d.out;
+        seen = IsPermutation-trans _ _ _ d.seen (IsPermutation-map (execution_of V c) _ _ moved);
+        numbers = IsPermutation-trans _ _ _ (IsPermutation-append_left (V.out_numbers a) _ _ (IsPermutation-sym _ _
+            (IsPermutation-map (λ l. V.number l.state) _ _ moved)))
             d.numbers;
         keeps = d.keeps;
       }
 
   -- what was advanced from a moment on at which the state stood for the same
-  pub advanced_before : (lawful : IsLawful V) (a b c : M) (budget : ℕ) (e : Concrete S) (plans : List (List ℕ × C))
-      (lives_before lives ended_before ended : List (Concrete S))
-      → Keeps V a b [] → V.out_numbers b ≡ V.out_numbers a → V.is_out a e.state
-      → Advanced V b c budget e plans lives_before lives ended_before ended → Advanced V a c budget e plans lives_before lives ended_before ended
-  advanced_before lawful a b c budget e plans lives_before lives ended_before ended k n o d =
+  pub advanced_before : (lawful : IsLawful V) {a b c : M} {budget : ℕ} {e : Concrete S} {plans : List (List ℕ × C)}
+      {lives_before lives ended_before ended : List (Concrete S)} → Keeps V a b [] → V.out_numbers b ≡ V.out_numbers a
+      → Advanced V b c budget e plans lives_before lives ended_before ended → V.is_out a e.state
+      → Advanced V a c budget e plans lives_before lives ended_before ended
+  advanced_before lawful {a} {b} {c} {e = e} {plans = plans} k n d o =
       let s = k.stands e.state o (nowhere _) in let m = k.meanings in record {
         live = d.live;
         over = d.over;
@@ -83,23 +79,17 @@ module _ {M S W C : Type 0} (V : View M S W C) where
 grown : {X : Type 0} (xs ys us vs : List X) → IsPermutation ((xs ++ ys) ++ (us ++ vs)) ((xs ++ us) ++ (ys ++ vs))
 grown xs ys us vs =
     subst (λ zs. IsPermutation zs ((xs ++ us) ++ (ys ++ vs))) (sym (append_assoc xs ys (us ++ vs)))
-    (subst (IsPermutation (xs ++ (ys ++ (us ++ vs)))) (sym (append_assoc xs us (ys ++ vs)))
-    (IsPermutation-append_right xs (ys ++ (us ++ vs)) (us ++ (ys ++ vs))
-    (subst (λ zs. IsPermutation zs (us ++ (ys ++ vs))) (append_assoc ys us vs)
-    (subst (IsPermutation ((ys ++ us) ++ vs)) (append_assoc us ys vs)
-    (IsPermutation-append_left vs (ys ++ us) (us ++ ys) (IsPermutation-append_comm ys us))))))
+    (subst (IsPermutation (xs ++ (ys ++ (us ++ vs)))) (sym (append_assoc xs us (ys ++ vs))) (IsPermutation-append_right xs _ _
+    (subst (λ zs. IsPermutation zs (us ++ (ys ++ vs))) (append_assoc ys us vs) (subst (IsPermutation ((ys ++ us) ++ vs)) (append_assoc us ys vs)
+    (IsPermutation-append_left vs _ _ (IsPermutation-append_comm ys us))))))
 
-module _ {M S W C : Type 0} (V : View M S W C) (lawful : IsLawful V) (a : M) (budget : ℕ) (numbers : List ℕ) (lives ended : List (Concrete S))
-    (h : IsHeld V a budget numbers lives ended)
-    (e : Concrete S) (others : List (Concrete S)) (p : IsPermutation lives (e ∷ others)) where
+module _ {M S W C : Type 0} {V : View M S W C} (lawful : IsLawful V) {a : M} {budget : ℕ} {numbers : List ℕ} {lives ended : List (Concrete S)}
+    (h : IsHeld V a budget numbers lives ended) {e : Concrete S} {others : List (Concrete S)} (p : IsPermutation lives (e ∷ others)) where
   all_moved : IsPermutation (lives ++ ended) (e ∷ (others ++ ended))
-  all_moved = IsPermutation-append_left ended lives (e ∷ others) p
+  all_moved = IsPermutation-append_left ended _ _ p
 
   numbers_moved : IsPermutation (V.out_numbers a) (V.number e.state ∷ (state_numbers V (others ++ ended) ++ numbers))
-  numbers_moved = IsPermutation-trans (V.out_numbers a) (state_numbers V (lives ++ ended) ++ numbers) (V.number e.state
-      ∷ (state_numbers V (others ++ ended) ++ numbers)) h.numbers
-      (IsPermutation-append_left numbers (state_numbers V (lives ++ ended)) (state_numbers V (e ∷ (others ++ ended)))
-      (IsPermutation-map (λ l. V.number l.state) (lives ++ ended) (e ∷ (others ++ ended)) all_moved))
+  numbers_moved = IsPermutation-trans _ _ _ h.numbers (IsPermutation-append_left numbers _ _ (IsPermutation-map (λ l. V.number l.state) _ _ all_moved))
 
   apart : (l : Concrete S) → Contains (others ++ ended) l → V.number e.state ≢ V.number l.state
   apart l c s =
@@ -110,13 +100,13 @@ module _ {M S W C : Type 0} (V : View M S W C) (lawful : IsLawful V) (a : M) (bu
       (Contains-append_left (state_numbers V (others ++ ended)) numbers (V.number l.state) (contains_map (λ y. V.number y.state) (others ++ ended) l c)))
 
   moved_out : All (λ l. V.is_out a l.state) (e ∷ (others ++ ended))
-  moved_out = All-permutation (λ l. V.is_out a l.state) (lives ++ ended) (e ∷ (others ++ ended)) all_moved h.out
+  moved_out = All-permutation (λ l. V.is_out a l.state) _ _ all_moved h.out
 
   pub e_out : V.is_out a e.state
   e_out = All-head (λ l. V.is_out a l.state) e (others ++ ended) moved_out
 
   pub e_goes_on : goes_on V a budget e ≡ true
-  e_goes_on = All-head (λ l. goes_on V a budget l ≡ true) e others (All-permutation (λ l. goes_on V a budget l ≡ true) lives (e ∷ others) p h.live)
+  e_goes_on = All-head (λ l. goes_on V a budget l ≡ true) e others (All-permutation (λ l. goes_on V a budget l ≡ true) _ _ p h.live)
 
   pub e_live : (V.meanings a).ended (V.stands a e.state) ≡ false
   e_live = not-true _ (and_parts (not ((V.meanings a).ended (V.stands a e.state))) (nat_lt e.step budget) e_goes_on).0
@@ -128,10 +118,10 @@ module _ {M S W C : Type 0} (V : View M S W C) (lawful : IsLawful V) (a : M) (bu
   others_out l c = All-contains (λ x. V.is_out a x.state) (others ++ ended) l (All-tail (λ x. V.is_out a x.state) e (others ++ ended) moved_out) c
 
   pub was_moved : IsPermutation (executions_of V a lives ended) (execution_of V a e ∷ executions_of V a others ended)
-  was_moved = IsPermutation-map (execution_of V a) (lives ++ ended) (e ∷ (others ++ ended)) all_moved
+  was_moved = IsPermutation-map (execution_of V a) _ _ all_moved
 
   -- the others are as they were
-  module _ (c : M) (k : Keeps V a c (V.number e.state ∷ [])) where
+  module _ {c : M} (k : Keeps V a c (V.number e.state ∷ [])) where
     untouched : (l : Concrete S) → Contains (others ++ ended) l → Contains (V.number e.state ∷ []) (V.number l.state) → ⊥
     untouched l i t = apart l i (single t)
 
@@ -151,26 +141,23 @@ module _ {M S W C : Type 0} (V : View M S W C) (lawful : IsLawful V) (a : M) (bu
     kept_live : All (λ l. goes_on V c budget l ≡ true) others
     kept_live = All-from_contains (λ l. goes_on V c budget l ≡ true) others (λ l i. goes_on_kept l (Contains-append_left others ended l i)
         ∙ All-contains (λ x. goes_on V a budget x ≡ true) others l (All-tail (λ x. goes_on V a budget x ≡ true) e others
-        (All-permutation (λ x. goes_on V a budget x ≡ true) lives (e ∷ others) p h.live)) i)
+        (All-permutation (λ x. goes_on V a budget x ≡ true) _ _ p h.live)) i)
 
     kept_over : All (λ l. goes_on V c budget l ≡ false) ended
     kept_over = All-from_contains (λ l. goes_on V c budget l ≡ false) ended (λ l i. goes_on_kept l (Contains-append_right others ended l i)
         ∙ All-contains (λ x. goes_on V a budget x ≡ false) ended l h.over i)
 
     -- the execution came back
-    module _ (back : Concrete S) (b : IsExecutionBack V a c e back) where
+    module _ {back : Concrete S} (b : IsExecutionBack V a c e back) where
       back_moved : {X : Type 0} (f : Concrete S → X) → IsPermutation (f back ∷ map f (others ++ ended)) (map f ((others ++ back ∷ []) ++ ended))
-      back_moved f = IsPermutation-map f (back ∷ (others ++ ended)) ((others ++ back ∷ []) ++ ended)
-          (IsPermutation-append_left ended (back ∷ others) (others ++ back ∷ [])
-          (IsPermutation-sym (others ++ back ∷ []) (back ∷ others) (IsPermutation-to_front others back)))
+      back_moved f = IsPermutation-map f _ _ (IsPermutation-append_left ended _ _ (IsPermutation-sym _ _ (IsPermutation-to_front others back)))
 
       back_seen : execution_of V c back ≡ execution_of V a e
       back_seen = let s = b.step in let m = b.members in let w = b.state.stands in cc
 
       pub same_executions : IsPermutation (executions_of V a lives ended) (executions_of V c (others ++ back ∷ []) ended)
-      same_executions = IsPermutation-trans (executions_of V a lives ended) (execution_of V a e ∷ executions_of V a others ended)
-          (executions_of V c (others ++ back ∷ []) ended) was_moved
-          (subst (λ x. IsPermutation (x ∷ executions_of V a others ended) (executions_of V c (others ++ back ∷ []) ended)) back_seen
+      same_executions = IsPermutation-trans _ _
+          _ was_moved (subst (λ x. IsPermutation (x ∷ executions_of V a others ended) (executions_of V c (others ++ back ∷ []) ended)) back_seen
           (subst (λ xs. IsPermutation (execution_of V c back ∷ xs) (executions_of V c (others ++ back ∷ []) ended)) kept_seen (back_moved (execution_of V c))))
 
       back_goes_on : goes_on V c budget back ≡ true
@@ -180,15 +167,10 @@ module _ {M S W C : Type 0} (V : View M S W C) (lawful : IsLawful V) (a : M) (bu
 
       pub held_back : IsHeld V c budget numbers (others ++ back ∷ []) ended
       held_back = record {
-        out = All-permutation (λ l. V.is_out c l.state) (back ∷ (others ++ ended)) ((others ++ back ∷ []) ++ ended)
-            (IsPermutation-append_left ended (back ∷ others) (others ++ back ∷ [])
-            (IsPermutation-sym (others ++ back ∷ []) (back ∷ others) (IsPermutation-to_front others back)))
+        out = All-permutation (λ l. V.is_out c l.state) _ _ (IsPermutation-append_left ended _ _ (IsPermutation-sym _ _ (IsPermutation-to_front others back)))
             (All-cons (λ l. V.is_out c l.state) back (others ++ ended) b.state.out kept_out);
-        numbers = IsPermutation-trans (V.out_numbers c) (V.out_numbers a) (state_numbers V ((others ++ back ∷ []) ++ ended) ++ numbers)
-            (IsPermutation-sym _ _ b.state.numbers)
-            (IsPermutation-trans (V.out_numbers a) (V.number e.state ∷ (state_numbers V (others ++ ended) ++ numbers))
-            (state_numbers V ((others ++ back ∷ []) ++ ended) ++ numbers) numbers_moved
-            (IsPermutation-append_left numbers (V.number e.state ∷ state_numbers V (others ++ ended)) (state_numbers V ((others ++ back ∷ []) ++ ended))
+        numbers = IsPermutation-trans _ _ _ (IsPermutation-sym _ _ b.state.numbers) (IsPermutation-trans _ _
+            _ numbers_moved (IsPermutation-append_left numbers _ _
             (subst (λ n. IsPermutation (n ∷ state_numbers V (others ++ ended)) (state_numbers V ((others ++ back ∷ []) ++ ended))) b.state.number
             (back_moved (λ l. V.number l.state)))));
         live = All-append (λ l. goes_on V c budget l ≡ true) others (back ∷ []) kept_live
@@ -197,7 +179,7 @@ module _ {M S W C : Type 0} (V : View M S W C) (lawful : IsLawful V) (a : M) (bu
       }
 
   -- the execution was divided
-  module _ (c : M) (plans : List (List ℕ × C)) (lives_after ended_after : List (Concrete S))
+  module _ {c : M} {plans : List (List ℕ × C)} {lives_after ended_after : List (Concrete S)}
       (d : Advanced V a c budget e plans others lives_after ended ended_after) where
     after_are : executions_of V c lives_after ended_after ≡ executions_of V c (others ++ d.live) (ended ++ d.over)
     after_are = ap (λ xs. executions_of V c xs ended_after) d.lives_are ∙ ap (executions_of V c (others ++ d.live)) d.ended_are
@@ -207,50 +189,37 @@ module _ {M S W C : Type 0} (V : View M S W C) (lawful : IsLawful V) (a : M) (bu
 
     pub turned_executions : IsPermutation (executions_of V a others ended ++ map (child_of V a e) plans) (executions_of V c lives_after ended_after)
     turned_executions =
-        subst (IsPermutation (executions_of V a others ended ++ map (child_of V a e) plans)) (sym after_are)
-        (IsPermutation-trans (executions_of V a others ended ++ map (child_of V a e) plans) (executions_of V a others ended
-        ++ map (execution_of V c) (d.live ++ d.over)) (executions_of V c (others ++ d.live) (ended ++ d.over))
-        (IsPermutation-append_right (executions_of V a others ended) (map (child_of V a e) plans) (map (execution_of V c) (d.live ++ d.over)) d.seen)
+        subst (IsPermutation (executions_of V a others ended ++ map (child_of V a e) plans)) (sym after_are) (IsPermutation-trans _ _ _
+        (IsPermutation-append_right (executions_of V a others ended) _ _ d.seen)
         (subst (λ xs. IsPermutation (xs ++ map (execution_of V c) (d.live ++ d.over)) (executions_of V c (others ++ d.live) (ended ++ d.over)))
-        (kept_seen c d.keeps)
-        (subst (λ xs. IsPermutation xs (executions_of V c (others ++ d.live) (ended ++ d.over)))
-        (map-append (execution_of V c) (others ++ ended) (d.live ++ d.over))
-        (IsPermutation-map (execution_of V c) ((others ++ ended) ++ (d.live ++ d.over)) ((others ++ d.live) ++ (ended ++ d.over)) both))))
+        (kept_seen d.keeps) (subst (λ xs. IsPermutation xs (executions_of V c (others ++ d.live) (ended ++ d.over)))
+        (map-append (execution_of V c) (others ++ ended) (d.live ++ d.over)) (IsPermutation-map (execution_of V c) _ _ both))))
 
     new_numbers : IsPermutation (V.out_numbers c) (state_numbers V (d.live ++ d.over) ++ (state_numbers V (others ++ ended) ++ numbers))
     new_numbers =
         let made = state_numbers V (d.live ++ d.over) in let n = V.number e.state in let rest = state_numbers V (others ++ ended) ++ numbers in
-        cancel_front (n ∷ []) (V.out_numbers c) (made ++ rest)
-        (IsPermutation-trans (n ∷ V.out_numbers c) (made ++ V.out_numbers a) (n ∷ (made ++ rest))
-        (IsPermutation-sym (made ++ V.out_numbers a) (n ∷ V.out_numbers c) d.numbers)
-        (IsPermutation-trans (made ++ V.out_numbers a) (made ++ n ∷ rest) (n ∷ (made ++ rest))
-        (IsPermutation-append_right made (V.out_numbers a) (n ∷ rest) numbers_moved) (IsPermutation-middle made n rest)))
+        cancel_front (n ∷ []) (V.out_numbers c) (made ++ rest) (IsPermutation-trans _ _ _ (IsPermutation-sym _ _ d.numbers) (IsPermutation-trans _ _ _
+        (IsPermutation-append_right made _ _ numbers_moved) (IsPermutation-middle made n rest)))
 
     pub held_on : IsHeld V c budget numbers lives_after ended_after
     held_on = subst (λ xs. IsHeld V c budget numbers xs ended_after) (sym d.lives_are)
         (subst (IsHeld V c budget numbers (others ++ d.live)) (sym d.ended_are) (record {
-          out = All-permutation (λ l. V.is_out c l.state) ((others ++ ended) ++ (d.live ++ d.over)) ((others ++ d.live) ++ (ended ++ d.over)) both
-              (All-append (λ l. V.is_out c l.state) (others ++ ended) (d.live ++ d.over) (kept_out c d.keeps) d.out);
-          numbers = IsPermutation-trans (V.out_numbers c) (state_numbers V (d.live ++ d.over) ++ (state_numbers V (others ++ ended) ++ numbers))
-              (state_numbers V ((others ++ d.live) ++ (ended ++ d.over)) ++ numbers) new_numbers
-              (subst (λ xs. IsPermutation xs (state_numbers V ((others ++ d.live) ++ (ended ++ d.over)) ++ numbers))
-              (append_assoc (state_numbers V (d.live ++ d.over)) (state_numbers V (others ++ ended)) numbers)
-              (IsPermutation-append_left numbers (state_numbers V (d.live ++ d.over) ++ state_numbers V (others ++ ended))
-              (state_numbers V ((others ++ d.live) ++ (ended ++ d.over)))
-              (IsPermutation-trans (state_numbers V (d.live ++ d.over) ++ state_numbers V (others ++ ended)) (state_numbers V (others ++ ended)
-              ++ state_numbers V (d.live ++ d.over)) (state_numbers V ((others ++ d.live) ++ (ended ++ d.over)))
-              (IsPermutation-append_comm (state_numbers V (d.live ++ d.over)) (state_numbers V (others ++ ended)))
+          out = All-permutation (λ l. V.is_out c l.state) _ _ both
+              (All-append (λ l. V.is_out c l.state) (others ++ ended) (d.live ++ d.over) (kept_out d.keeps) d.out);
+          numbers = IsPermutation-trans _ _
+              _ new_numbers (subst (λ xs. IsPermutation xs (state_numbers V ((others ++ d.live) ++ (ended ++ d.over)) ++ numbers))
+              (append_assoc (state_numbers V (d.live ++ d.over)) (state_numbers V (others ++ ended)) numbers) (IsPermutation-append_left numbers _
+              _ (IsPermutation-trans _ _ _ (IsPermutation-append_comm (state_numbers V (d.live ++ d.over)) (state_numbers V (others ++ ended)))
               (subst (λ xs. IsPermutation xs (state_numbers V ((others ++ d.live) ++ (ended ++ d.over))))
-              (map-append (λ l. V.number l.state) (others ++ ended) (d.live ++ d.over))
-              (IsPermutation-map (λ l. V.number l.state) ((others ++ ended) ++ (d.live ++ d.over)) ((others ++ d.live) ++ (ended ++ d.over)) both)))));
-          live = All-append (λ l. goes_on V c budget l ≡ true) others d.live (kept_live c d.keeps) d.all_live;
-          over = All-append (λ l. goes_on V c budget l ≡ false) ended d.over (kept_over c d.keeps) d.all_over;
+              (map-append (λ l. V.number l.state) (others ++ ended) (d.live ++ d.over)) (IsPermutation-map (λ l. V.number l.state) _ _ both)))));
+          live = All-append (λ l. goes_on V c budget l ≡ true) others d.live (kept_live d.keeps) d.all_live;
+          over = All-append (λ l. goes_on V c budget l ≡ false) ended d.over (kept_over d.keeps) d.all_over;
         }))
 
 -- an execution that stayed out has come back
-pub stayed : {M S W C : Type 0} (V : View M S W C) (lawful : IsLawful V) (a b : M) (e : Concrete S) → Keeps V a b [] → V.out_numbers b ≡ V.out_numbers a
+pub stayed : {M S W C : Type 0} {V : View M S W C} (lawful : IsLawful V) {a b : M} (e : Concrete S) → Keeps V a b [] → V.out_numbers b ≡ V.out_numbers a
     → V.is_out a e.state → IsExecutionBack V a b e e
-stayed V lawful a b e k n o = record {
+stayed {V = V} lawful {a} {b} e k n o = record {
   step = refl;
   members = refl;
   state = record {
@@ -262,9 +231,9 @@ stayed V lawful a b e k n o = record {
   };
 }
 
-pub back_before : {M S W C : Type 0} (V : View M S W C) (lawful : IsLawful V) (a b c : M) (e back : Concrete S) → Keeps V a b []
-    → V.out_numbers b ≡ V.out_numbers a → V.is_out a e.state → IsExecutionBack V b c e back → IsExecutionBack V a c e back
-back_before V lawful a b c e back k n o i = record {
+pub back_before : {M S W C : Type 0} {V : View M S W C} (lawful : IsLawful V) {a b c : M} {e back : Concrete S} → Keeps V a b []
+    → V.out_numbers b ≡ V.out_numbers a → IsExecutionBack V b c e back → V.is_out a e.state → IsExecutionBack V a c e back
+back_before {V = V} lawful {a} {b} {c} {e} k n i o = record {
   step = i.step;
   members = i.members;
   state = record {
@@ -277,11 +246,11 @@ back_before V lawful a b c e back k n o i = record {
 }
 
 -- what touches the state of one execution touches those of all
-pub keeps_all : {M S W C : Type 0} (V : View M S W C) (a c : M) (e : Concrete S) (all others : List (Concrete S)) → IsPermutation all (e ∷ others)
+pub keeps_all : {M S W C : Type 0} {V : View M S W C} {a c : M} {e : Concrete S} {all others : List (Concrete S)} → IsPermutation all (e ∷ others)
     → Keeps V a c (V.number e.state ∷ []) → Keeps V a c (state_numbers V all)
-keeps_all V a c e all others p k =
+keeps_all {V = V} {e = e} {all} {others} p k =
     let there : Contains (state_numbers V all) (V.number e.state) = contains_map (λ l. V.number l.state) all e
-    (Contains-permutation (e ∷ others) all e (IsPermutation-sym all (e ∷ others) p) (contains_here e others)) in
+    (Contains-permutation (e ∷ others) all e (IsPermutation-sym _ _ p) (contains_here e others)) in
     record {
       meanings = k.meanings;
       stays = k.stays;
@@ -290,9 +259,9 @@ keeps_all V a c e all others p k =
     }
 
 -- the element that was taken out
-pub taken_out : {X : Type 0} (xs rest : List X) (at : ℕ) (x : X) → at < length xs → x ≡ get_or xs at x → rest ≡ swap_remove xs at x
+pub taken_out : {X : Type 0} {xs rest : List X} {at : ℕ} {x : X} → x ≡ get_or xs at x → rest ≡ swap_remove xs at x → at < length xs
     → IsPermutation xs (x ∷ rest)
-taken_out xs rest at x l e r = subst (λ ys. IsPermutation xs (x ∷ ys)) (sym r) (IsPermutation-swap_remove xs at x l e)
+taken_out {xs = xs} {at = at} {x} e r l = subst (λ ys. IsPermutation xs (x ∷ ys)) (sym r) (IsPermutation-swap_remove xs at x l e)
 
 pub at_index : {X : Type 0} (xs : List X) (at : ℕ) (x : X) → at < length xs → x ≡ get_or xs at x → slice_get xs at ≡ Some x
 at_index xs at x l e = slice_get_read xs (length xs) at x refl l e

@@ -41,6 +41,17 @@ pub struct TapeState {
     written: Vec<u64>,
 }
 
+impl TapeState {
+    ghost use Rattle.exec_tests.specs.TapeView.{tape_view};
+
+    /// The numbers written so far.
+    pub fn written(&self) -> &[u64]
+        ensures { (tape : Tape) → result.now ≡ tape_view.stands tape self.now }
+    {
+        self.written.as_slice()
+    }
+}
+
 impl Tape {
     ghost use Rattle.exec_tests.specs.TapeView.{len_of, tape_counts, tape_view};
 

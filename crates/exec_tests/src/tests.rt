@@ -4,7 +4,7 @@ ghost use Rattle.std.specs.List.{All, IsDistinct};
 ghost use Rattle.code_form.specs.Variant.{mutants_of, chosen_by};
 ghost use Rattle.exec_core.specs.Analysed.{class_numbers};
 
-use crate::tape::Tape;
+use crate::tape::{Tape, TapeState};
 use am_base::OutOfMemory;
 use am_lists::Items;
 use code_form::{Code, Instr, Operand, Place, Variants};
@@ -61,14 +61,26 @@ fn thousand_mutants(alloc: Global, code: &Code) -> Result<Variants, OutOfMemory>
     Ok(table)
 }
 
-/// 1,000 gains: 8 at the first 900 places, 1 at the others.
-fn late_gains(alloc: Global) -> Result<Vec<u64>, OutOfMemory>
-    ensures len { IfOk result (λ gains. length gains.items ≡ 1000) }
+/// 1,002 mutants: each seven from 1 on have replacements of their own at one of 143 places.
+fn seven_a_place(alloc: Global, code: &Code) -> Result<Variants, OutOfMemory>
+    requires { length code.now.instrs ≡ 143 }
+{
+    let mut table = Variants::new(alloc, 1002)?;
+    for m in 1..1002u32 {
+        let word = 8 + u64::from((m - 1) % 7);
+        table.add(alloc, code, m, Place((m - 1) / 7), freeze(word))?;
+    }
+    Ok(table)
+}
+
+/// So many gains: 8 at the places before the late ones, 1 at the others.
+fn late_gains(alloc: Global, len: u32, late: u32) -> Result<Vec<u64>, OutOfMemory>
+    ensures len { IfOk result (λ gains. length gains.items ≡ len) }
     ensures small { IfOk result (λ gains. All (λ gain. gain ≤ 1000000) gains.items) }
 {
-    let mut gains = Vec::with_capacity(alloc, 1000)?;
-    for place in 0..1000u32 {
-        gains.push(if place < 900 { 8 } else { 1 })?;
+    let mut gains = Vec::with_capacity(alloc, len as usize)?;
+    for place in 0..len {
+        gains.push(if place < late { 8 } else { 1 })?;
     }
     Ok(gains)
 }
@@ -155,12 +167,21 @@ fn three_mutants(alloc: Global, code: &Code) -> Result<Variants, OutOfMemory>
     Ok(table)
 }
 
-/// Runs the machine that writes three numbers.
+/// What the state of each class has written.
+fn written_by(alloc: Global, classes: &[Class<TapeState>]) -> Result<Vec<Vec<u64>>, OutOfMemory> {
+    let mut all = Vec::new(alloc);
+    for class in classes {
+        all.push(class.state.written().to_vec(alloc)?)?;
+    }
+    Ok(all)
+}
+
+/// Runs the machine that writes three numbers, and tells also what each class has written.
 fn run_tape(
     alloc: Global,
     table: &Variants,
     picker: &mut Box<dyn Picker>,
-) -> Result<Trial, OutOfMemory> {
+) -> Result<(Trial, Vec<Vec<u64>>), OutOfMemory> {
     let mut tape = Tape::new(alloc, 3);
     let start = tape.start(alloc)?;
     let mut meter = Meter::new();
@@ -170,10 +191,11 @@ fn run_tape(
         splits,
         work,
     } = analysis;
+    let written = written_by(alloc, classes.as_slice());
     let mut kept = Vec::new(alloc);
     release_all(&mut tape, classes, &mut kept);
     kept.reverse();
-    Ok(Trial {
+    let trial = Trial {
         classes: kept,
         splits,
         work,
@@ -182,7 +204,8 @@ fn run_tape(
         weighed: 0,
         asked: 0,
         metered: meter.steps(),
-    })
+    };
+    Ok((trial, written?))
 }
 
 /// Whether the class at an index has these members, each with a trace of this length.
@@ -193,6 +216,14 @@ fn has_class(trial: &Trial, at: usize, numbers: &[u32], length: u64) -> bool {
                 && members.len() as usize == numbers.len()
                 && numbers.iter().all(|m| members.has(*m))
         }
+        None => false,
+    }
+}
+
+/// Whether the state of the class at an index has written these numbers.
+fn has_written(written: &[Vec<u64>], at: usize, numbers: &[u64]) -> bool {
+    match written.get(at) {
+        Some(all) => all.as_slice() == numbers,
         None => false,
     }
 }
@@ -222,7 +253,14 @@ fn run_example(
 fn run_thousand(alloc: Global, picker: &mut Box<dyn Picker>) -> Result<Trial, OutOfMemory> {
     let code = plain_code(alloc, 1000)?;
     let table = thousand_mutants(alloc, &code)?;
-    run_toy(alloc, late_gains(alloc)?, &table, 1000, picker)
+    run_toy(alloc, late_gains(alloc, 1000, 900)?, &table, 1000, picker)
+}
+
+/// 1,002 mutants over 143 gains of 1.
+fn run_seven(alloc: Global, picker: &mut Box<dyn Picker>) -> Result<Trial, OutOfMemory> {
+    let code = plain_code(alloc, 143)?;
+    let table = seven_a_place(alloc, &code)?;
+    run_toy(alloc, late_gains(alloc, 143, 0)?, &table, 1000, picker)
 }
 
 /// Whether this is what the worked example comes to within a budget of 3.
@@ -345,7 +383,7 @@ fn states_that_apply_pushes_onto(rt: HostRuntime) -> Result<(), Fail> {
     let code = plain_code(rt.alloc(), 3)?;
     let table = three_mutants(rt.alloc(), &code)?;
     let mut picker: Box<dyn Picker> = Box::new(rt.alloc(), DepthFirst::new())?;
-    let trial = run_tape(rt.alloc(), &table, &mut picker)?;
+    let (trial, written) = run_tape(rt.alloc(), &table, &mut picker)?;
     let work = trial.work;
     assert_eq!(rt;
         (work.steps, work.alone, work.tries, work.executions),
@@ -357,5 +395,37 @@ fn states_that_apply_pushes_onto(rt: HostRuntime) -> Result<(), Fail> {
     assert!(rt; has_class(&trial, 2, &[2], 3));
     assert!(rt; has_split(&trial, 0, 0, &[0, 1]));
     assert!(rt; has_split(&trial, 1, 2, &[0, 2]));
+    assert!(rt; has_written(&written, 0, &[0, 0, 0]));
+    assert!(rt; has_written(&written, 1, &[1, 1, 1]));
+    assert!(rt; has_written(&written, 2, &[0, 0, 1]));
+    Ok(())
+}
+
+#[test]
+fn more_than_a_thousand_classes(rt: HostRuntime) -> Result<(), Fail> {
+    // Seven mutants of each place p part there from mutant 0, with the changes 1 to 7, and repeat
+    // them: 143 - p steps each, 143 + 7 * 10,296 in all, that weigh 28 * 10,296. Mutant 0 tries
+    // eight variants at each place, four of them odd, and each other mutant one a step from the
+    // next place on: 8 * 143 + 7 * 10,153.
+    let mut picker: Box<dyn Picker> = Box::new(rt.alloc(), DepthFirst::new())?;
+    let trial = run_seven(rt.alloc(), &mut picker)?;
+    let work = trial.work;
+    assert_eq!(rt;
+        (work.steps, work.alone, work.tries, work.executions),
+        (72_215, 143_286, 72_215, 1_002)
+    );
+    assert_eq!(rt;
+        (trial.tried, trial.applied, trial.weighed, trial.asked),
+        (72_215, 72_215, 288_288, 572)
+    );
+    assert_eq!(rt;
+        (trial.metered, trial.classes.len(), trial.splits.len()),
+        (72_215, 1_002, 143)
+    );
+    for m in 0..1002u32 {
+        assert!(rt; has_class(&trial, m as usize, &[m], 143));
+    }
+    assert!(rt; has_split(&trial, 0, 0, &[0, 1, 2, 3, 4, 5, 6, 7]));
+    assert!(rt; has_split(&trial, 142, 142, &[0, 995, 996, 997, 998, 999, 1000, 1001]));
     Ok(())
 }

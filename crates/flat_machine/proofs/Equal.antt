@@ -1,11 +1,11 @@
--- The test of changes in the code is the one of their meanings.
-use Rattle.std.proofs.Common.{◌≡◌, ℕ, Bool, true, false, List, [], Option, None, IsTrue, refl, sym, subst}
+-- The test of changes in the code is the one of their meanings, and equal changes have equal keys.
+use Rattle.std.proofs.Common.{◌≡◌, ℕ, Bool, true, false, List, [], map, None, IsTrue, refl, sym, ap, ◌∙◌, subst}
+use Rattle.std.proofs.lemmas.List.{get_or-map}
 use Rattle.std.specs.Prelude.{◌↔◌}
+use Rattle.change_classes.specs.Keyed.{HasEqualKeys}
 use Rattle.code_form.specs.declared.code.Code.{Code}
-use Rattle.code_form.specs.Variant.{Table}
 use Rattle.traces.specs.Meanings.{IsSameTest}
 use Rattle.machine_form.specs.declared.change.Change.{Change}
-use Rattle.machine_form.specs.Calls.{Answers}
 use Rattle.machine_form.specs.Machine.{machine_of}
 use Rattle.machine_form.specs.Same.{same_change}
 use Rattle.machine_form.proofs.SameTests.{machine_same}
@@ -15,8 +15,15 @@ same_truth true t f g = sym (f refl)
 same_truth false true f g = g refl
 same_truth false false f g = refl
 
-module _ (code : Code) (table : Table) (answers : Answers) where
-  pub equal_is : (r : Bool) (a b : Change) → IsTrue r ↔ (a ≡ b) → r ≡ same_change a b
-  equal_is r a b h =
-      let test = machine_same code table answers in
-      same_truth r (same_change a b) (λ t. subst (λ x. same_change a x ≡ true) (h.0 t) (test.complete a)) (λ e. h.1 (test.sound a b e))
+-- what tells equal changes apart doesn't depend on what is run
+no_code : Code
+no_code = record { funcs = []; instrs = []; results = []; memory = []; const_end = 0; stack_base = 0; signs = [] }
+
+test : IsSameTest (machine_of no_code (record { chosen = []; mentioned = [] }) (λ p args. None))
+test = machine_same no_code (record { chosen = []; mentioned = [] }) (λ p args. None)
+
+pub equal_is : (r : Bool) (a b : Change) → IsTrue r ↔ (a ≡ b) → r ≡ same_change a b
+equal_is r a b h = same_truth r (same_change a b) (λ t. subst (λ x. same_change a x ≡ true) (h.0 t) (test.complete a)) (λ e. h.1 (test.sound a b e))
+
+pub keys_agree : (key : Change → ℕ) (changes : List Change) → HasEqualKeys same_change (map key changes) changes
+keys_agree key changes i j d l m h = get_or-map key changes i d 0 l ∙ ap key (test.sound _ _ h) ∙ sym (get_or-map key changes j d 0 m)

@@ -3,7 +3,7 @@
 --     flat_view     what contracts see of any machine. A state out is sound for the code, and the ports are those of the code;
 --                   it is ready for a change where it has the room
 --     flat_lawful   the laws of that view
-use Rattle.std.specs.Prelude.{◌≡◌, ℕ, List, nat_eq}
+use Rattle.std.specs.Prelude.{◌≡◌, nat_eq}
 use Rattle.std.proofs.Common.{refl, ◌∙◌}
 use Rattle.std.specs.List.{Contains, IsDistinct}
 use Rattle.traces.specs.Counts.{Counts}

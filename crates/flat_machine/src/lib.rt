@@ -3,6 +3,7 @@
 
 mod boxed;
 mod group;
+mod keys;
 mod machine;
 mod numbers;
 mod own_ports;

@@ -6,3 +6,5 @@ pub mod Constants
 pub mod Walks
 pub mod Initials
 pub mod Addresses
+pub mod Opens
+pub mod Few

@@ -1,5 +1,3 @@
-pub mod Opens
-pub mod Few
 pub mod Rooms
 pub mod Items
 pub mod Turns

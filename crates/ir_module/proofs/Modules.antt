@@ -24,7 +24,7 @@ use Rattle.ir_sound.specs.Whole.{AreWhole}
 use Rattle.ir_op_codes.specs.Alone.{function_number}
 use Rattle.ir_memory.specs.Inits.{ItemIsSmall}
 use Rattle.ir_memory.specs.Places.{named}
-use Rattle.ir_module.proofs.Few.{few-entities}
+use Rattle.ir_memory.proofs.Few.{few-entities}
 
 -- ---- the parts
 

@@ -34,7 +34,7 @@ use Rattle.ir_op_codes.proofs.Fitting.{op-fits}
 use Rattle.ir_module.specs.declared.parts.Parts.{Parts}
 use Rattle.ir_module.specs.declared.tables.Tables.{Tables}
 use Rattle.ir_module.specs.Parts.{no_parts, with_function, with_instruction, code_in, with_code, HasRoom, CanCode}
-use Rattle.ir_module.proofs.Few.{AreFew, few-locals, few-registers, few-blocks}
+use Rattle.ir_memory.proofs.Few.{AreFew, few-locals, few-registers, few-blocks}
 use Rattle.ir_module.proofs.Rooms.{front-few, function-room, register-room}
 
 one-more : {X : Type 0} (old new : List X) (x : X) (rest before : List X) → new ≡ old ++ x ∷ [] → before ≡ x ∷ rest → new ++ rest ≡ old ++ before

@@ -13,7 +13,7 @@ use Rattle.ir_pass.specs.Frames.{no_frame, body_at}
 use Rattle.ir_pass.specs.Heads.{next_head}
 use Rattle.ir_replacements.specs.declared.places.Spot.{Spot}
 use Rattle.ir_replacements.specs.declared.places.Places.{Places}
-use Rattle.ir_replacements.proofs.Opens.{head-next}
+use Rattle.ir_memory.proofs.Opens.{head-next}
 use Rattle.ir_replacements.specs.Places.{instructions_from, IsFrameOf, open_items, IsSpot, AreSpots, IsAdded, IsNoted, IsPassed}
 
 -- ---- lists

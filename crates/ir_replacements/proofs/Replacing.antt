@@ -44,7 +44,7 @@ use Rattle.ir_replacements.specs.Prepared.{IsPrepared, IsItemOf, HasFew, replace
 use Rattle.ir_replacements.proofs.LabelSets.{all-within}
 use Rattle.ir_replacements.proofs.Asked.{asked-is}
 use Rattle.ir_replacements.proofs.Pass.{MaybeSpot, spot-at, original-is}
-use Rattle.ir_replacements.proofs.Few.{AreFew, few-locals, few-entities, few-registers, few-blocks}
+use Rattle.ir_memory.proofs.Few.{AreFew, few-locals, few-entities, few-registers, few-blocks}
 
 either-way : {X : Type 0} (d b : Bool) (x y : X) → (if d then x else (if b then x else y)) ≡ (if (d || b) then x else y)
 either-way true b x y = refl

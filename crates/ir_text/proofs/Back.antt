@@ -7,6 +7,7 @@ use Rattle.ir_tokens.specs.declared.token.TokenKind.{TokenKind}
 use Rattle.ir_tokens.specs.declared.token.TokenKind.TheVariants as kind
 use Rattle.ir_grammar.specs.Lexeme.{Lexeme, Lexemes}
 use Rattle.ir_grammar.specs.Rule.{Rule, ◌>>=◌, pure, one, look, either, where_it}
+use Rattle.ir_text.proofs.Gives.{Bytes}
 
 -- ---- tokens that stay what they are
 
@@ -19,9 +20,9 @@ abbrev pub Ends : TokenKind → Text → Type 0
 Ends (kind.Sign b) rest = Unit {0}
 Ends _ rest = NotFirst goes_on rest
 
--- its spelling is a token wherever it may end
+-- its spelling is of bytes, and it is a token wherever it may end
 abbrev pub Fixed : Lexeme → Type 0
-Fixed l = (rest : Text) → Ends l.0 rest → IsToken l.0 l.1 rest
+Fixed l = Bytes l.1 × ((rest : Text) → Ends l.0 rest → IsToken l.0 l.1 rest)
 
 abbrev pub AllFixed : Lexemes → Type 0
 AllFixed [] = Unit {0}

@@ -4,6 +4,7 @@ use Rattle.ir_tokens.specs.Bytes.{Text, Each}
 use Rattle.ir_grammar.specs.Lexeme.{Lexeme, Lexemes}
 use Rattle.ir_grammar.specs.Rule.{Rule, ◌>>=◌, pure, refuse, one, look, either, where_it, many, ReadsMany, skip_many, further, some_listed, listed}
 use Rattle.ir_grammar.specs.Groups.{group_closed_by}
+use Rattle.ir_text.specs.ReadBack.{EachOf, SomeOf}
 
 -- each number of the text is a byte
 abbrev pub Bytes : Text → Type 0
@@ -12,10 +13,6 @@ Bytes s = Each (λ b. nat_lt b 256) s
 abbrev pub AllBytes : Lexemes → Type 0
 AllBytes [] = Unit {0}
 AllBytes (l ∷ ls) = Bytes l.1 × AllBytes ls
-
-abbrev pub EachOf : {A : Type 0} → (A → Type 0) → List A → Type 0
-EachOf P [] = Unit {0}
-EachOf P (x ∷ xs) = P x × EachOf P xs
 
 pub record Gives {A : Type 0} (p : Rule A) (P : A → Type 0) : Type 0 where
   pub gives : (ts : Lexemes) (x : A) (rest : Lexemes) → AllBytes ts → p.reads ts x rest → P x × AllBytes rest
@@ -60,10 +57,6 @@ module _ {A : Type 0} (begins : Lexemes → Bool) (p : Rule A) (P : A → Type 0
 
 pub gives-further : {A : Type 0} (begins : Lexemes → Bool) (p : Rule A) (P : A → Type 0) → Gives p P → Gives (further begins p) (EachOf P)
 gives-further begins p P g = gives-many _ _ P (gives-bind _ _ Any P (gives-one _ Any (λ _ _ _ _. tt)) (λ _ _. g))
-
-abbrev pub SomeOf : {A : Type 0} → (A → Type 0) → List A → Type 0
-SomeOf P [] = ⊥
-SomeOf P (x ∷ xs) = P x × EachOf P xs
 
 pub gives-some_listed : {A : Type 0} (begins : Lexemes → Bool) (p : Rule A) (P : A → Type 0) → Gives p P → Gives (some_listed begins p) (SomeOf P)
 gives-some_listed begins p P g = gives-bind _ _ P (SomeOf P) g (λ x a. gives-bind _ _ (EachOf P) (SomeOf P) (gives-further begins p P g)

@@ -17,7 +17,8 @@ use Rattle.ir_text.specs.Spelling as canon
 use Rattle.ir_text.specs.Spelling.{word, sign}
 use Rattle.ir_text.specs.Parts as parts
 use Rattle.ir_text.specs.Parts.{with_commas, type_lexemes, operand_lexemes, init_step, init_lexemes, init_element}
-use Rattle.ir_text.proofs.Gives.{EachOf, Bytes, Gives, Any, gives-map, gives-bind, gives-pure, gives-one, gives-refuse, gives-where_it, gives-listed, any-one}
+use Rattle.ir_text.specs.ReadBack.{EachOf}
+use Rattle.ir_text.proofs.Gives.{Bytes, Gives, Any, gives-map, gives-bind, gives-pure, gives-one, gives-refuse, gives-where_it, gives-listed, any-one}
 use Rattle.ir_text.proofs.Back.{Always, Back, back-pure, back-step, back-then, back-then_if, back-last, back-yes, back-no, back-same}
 use Rattle.ir_text.proofs.Values.{cstring-kept, cstring-again}
 use Rattle.ir_text.proofs.FixedTokens.{sign-fixed, cstring-fixed}
@@ -74,7 +75,7 @@ one-begun x b = begun _ _ _ _ _ (lexemes-One x) (back-no sees_cstring _ _ _ _ _ 
 
 text-begun : (s : Text) → Bytes s → Begun false false init_simple (initial.Text s)
 text-begun s k = begun _ _ _ _ _ (lexemes-Text s) (back-yes sees_cstring _ _ _ _ _ (λ after _. refl)
-    (back-step _ _ _ s _ _ _ (cstring-fixed s) (cstring-again s k) (back-pure _ _))) (λ after. (refl, refl))
+    (back-step _ _ _ s _ _ _ (cstring-fixed s k) (cstring-again s k) (back-pure _ _))) (λ after. (refl, refl))
 
 simple-gives : Gives init_simple (Begun false false init_simple)
 simple-gives = gives-where_it _ _ _ _ (gives-bind _ _ Bytes _ (gives-one _ Bytes cstring-kept) (λ s k. gives-pure _ _ (text-begun s k)))

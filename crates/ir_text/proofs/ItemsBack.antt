@@ -22,7 +22,8 @@ use Rattle.ir_grammar.specs.Items.{SomeItem, item_by, item}
 use Rattle.ir_text.specs.Spelling.{word, sign, comma, local, global, label}
 use Rattle.ir_text.specs.Parts as parts
 use Rattle.ir_text.specs.Parts.{type_lexemes, init_lexemes, op_lexemes, item_lexemes, joined, in_parentheses}
-use Rattle.ir_text.proofs.Gives.{EachOf, Gives, Any, gives-bind, gives-pure, gives-one, gives-look, gives-where_it, gives-listed, any-one, any-where_it}
+use Rattle.ir_text.specs.ReadBack.{EachOf, PartsReadBack}
+use Rattle.ir_text.proofs.Gives.{Gives, Any, gives-bind, gives-pure, gives-one, gives-look, gives-where_it, gives-listed, any-one, any-where_it}
 use Rattle.ir_text.proofs.Gives.{any-group}
 use Rattle.ir_text.proofs.Back.{Fixed, Always, Back, back-pure, back-step, back-then, back-then_if, back-last, back-none, back-look, back-yes, back-no}
 use Rattle.ir_text.proofs.Back.{back-same, back-any}
@@ -33,11 +34,11 @@ use Rattle.ir_text.proofs.TypesBack.{TypeBack, type-begins, type-gives}
 use Rattle.ir_text.proofs.Skipped.{skipped-any, skipped-none, head_skipped-any, head_skipped-none, optional-any, tailed-any, tailed-none, global_tailed-any}
 use Rattle.ir_text.proofs.Skipped.{global_tailed-none}
 use Rattle.ir_text.proofs.InitsBack.{InitBack, init-gives}
-use Rattle.ir_text.proofs.OpsBack.{Behind, OpBack, ResultBack, result-gives, instruction-gives}
+use Rattle.ir_text.proofs.OpsBack.{Behind, OpBack, op-back, ResultBack, result-gives, instruction-gives}
 
--- an item that is an instruction is one that is read again
+-- each part of an item that is an instruction reads back
 abbrev pub InstrBack : Item → Type 0
-InstrBack (tree.Instr n o) = OpBack o
+InstrBack (tree.Instr n o) = PartsReadBack o
 InstrBack _ = Unit {0}
 
 -- an item that is read again, and begins as what may stand behind another
@@ -94,13 +95,13 @@ instruction-again n o b = record {
   again = λ after h. (o, after, b.back.again after h, (tt, after, tailed-none after h.no_tail, (refl, refl)));
 }
 
-pub plain-back : (o : Op) → OpBack o → ItemBack (tree.Instr None o)
+pub plain-back : (o : Op) → PartsReadBack o → ItemBack (tree.Instr None o)
 unfolding item_lexemes
-plain-back o b = started items.Other _ (op_lexemes o) b refl (λ after. (b.head after).other) (instruction-again None o b) (λ after. (b.head after).behind)
+plain-back o h = let b = op-back o h in started items.Other _ (op_lexemes o) h refl (λ after. (b.head after).other) (instruction-again None o b) (λ after. (b.head after).behind)
 
-bound-back : (n : Name) (o : Op) → IsKept n → OpBack o → ItemBack (tree.Instr (Some n) o)
+bound-back : (n : Name) (o : Op) → IsKept n → PartsReadBack o → ItemBack (tree.Instr (Some n) o)
 unfolding item_lexemes
-bound-back n o k b = started items.Local _ (local n ∷ sign 61 ∷ op_lexemes o) b refl (λ after. local-start n _)
+bound-back n o k h = let b = op-back o h in started items.Local _ (local n ∷ sign 61 ∷ op_lexemes o) h refl (λ after. local-start n _)
     (back-step _ _ _ n _ _ _ (local-fixed n k) (local-again n k) (back-step _ _ _ tt _ _ _ (sign-fixed 61 refl) refl
     (back-no (sees_word (codes "type")) _ _ _ _ _ (λ after _. (b.head after).no_type) (instruction-again (Some n) o b)))) (λ after. local-behind n _)
 
@@ -115,10 +116,10 @@ type-back n t k b = started items.Local _ (local n ∷ sign 61 ∷ word (codes "
 bound-gives : Gives rules.bound SomeBack
 bound-gives = gives-bind _ _ IsKept _ (gives-one _ IsKept local-kept) (λ n k. gives-bind _ _ Any _ (any-one _) (λ _ _. gives-where_it _ _ _ _
     (gives-bind _ _ Any _ (any-one _) (λ _ _. gives-bind _ _ (TypeBack type_text) _ type-gives (λ t b. gives-pure _ _ (type-back n t k b))))
-    (gives-bind _ _ OpBack _ instruction-gives (λ o b. gives-bind _ _ Any _ tailed-any (λ _ _. gives-pure _ _ (bound-back n o k b))))))
+    (gives-bind _ _ PartsReadBack _ instruction-gives (λ o b. gives-bind _ _ Any _ tailed-any (λ _ _. gives-pure _ _ (bound-back n o k b))))))
 
 plain-gives : Gives (rules.instruction_of None) SomeBack
-plain-gives = gives-bind _ _ OpBack _ instruction-gives (λ o b. gives-bind _ _ Any _ tailed-any (λ _ _. gives-pure _ _ (plain-back o b)))
+plain-gives = gives-bind _ _ PartsReadBack _ instruction-gives (λ o b. gives-bind _ _ Any _ tailed-any (λ _ _. gives-pure _ _ (plain-back o b)))
 
 -- ---- globals
 

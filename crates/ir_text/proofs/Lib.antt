@@ -2,11 +2,13 @@ pub mod Gives
 pub mod Back
 pub mod Values
 pub mod FixedTokens
+pub mod SpacedCut
 pub mod ListsBack
 pub mod TypesBack
 pub mod Skipped
 pub mod OperandsBack
 pub mod InitsBack
+pub mod PartsBack
 pub mod OpsBack
 pub mod ItemsBack
 pub mod ModulesBack

@@ -5,7 +5,7 @@ use Rattle.ir_grammar.specs.Lexeme.{Lexemes}
 use Rattle.ir_grammar.specs.Rule.{Rule, ◌>>◌, sign, many, ReadsMany, comma_then, further, some_listed, listed}
 use Rattle.ir_text.specs.Spelling.{comma}
 use Rattle.ir_text.specs.Parts.{joined, behind_commas, with_commas}
-use Rattle.ir_text.proofs.Gives.{EachOf}
+use Rattle.ir_text.specs.ReadBack.{EachOf}
 use Rattle.ir_text.proofs.Back.{AllFixed, fixed-append, Back, back-step, back-then_if, back-last, back-pure, back-yes, back-no, back-same}
 use Rattle.ir_text.proofs.FixedTokens.{sign-fixed}
 

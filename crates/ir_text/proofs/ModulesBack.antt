@@ -6,7 +6,8 @@ use Rattle.ir_grammar.specs.Lexeme.{Lexemes}
 use Rattle.ir_grammar.specs.Starts.{sees_skip, skip_start, sees_tail, sees_global_tail, tail_start}
 use Rattle.ir_grammar.specs.Modules.{is_allowed, leaves_open, Piece, Front, kept, kept_starts, IsModule}
 use Rattle.ir_text.specs.Parts.{item_lexemes, joined}
-use Rattle.ir_text.proofs.Gives.{AllBytes, EachOf}
+use Rattle.ir_text.specs.ReadBack.{EachOf}
+use Rattle.ir_text.proofs.Gives.{AllBytes}
 use Rattle.ir_text.proofs.Back.{AllFixed, fixed-append}
 use Rattle.ir_text.proofs.OpsBack.{Behind}
 use Rattle.ir_text.proofs.ItemsBack.{ItemBack, item-gives}

@@ -16,9 +16,10 @@ use Rattle.ir_grammar.specs.Operands.{constant_index, get_constant, operand_by, 
 use Rattle.ir_text.specs.Spelling.{word, sign}
 use Rattle.ir_text.specs.Parts as parts
 use Rattle.ir_text.specs.Parts.{type_lexemes, operand_lexemes, typed}
-use Rattle.ir_text.proofs.Gives.{EachOf, Gives, Any, gives-map, gives-bind, gives-pure, gives-one, gives-refuse, gives-look, gives-further, any-one}
+use Rattle.ir_text.specs.ReadBack.{EachOf, IsWide}
+use Rattle.ir_text.proofs.Gives.{Gives, Any, gives-map, gives-bind, gives-pure, gives-one, gives-refuse, gives-look, gives-further, any-one}
 use Rattle.ir_text.proofs.Back.{Fixed, Always, Back, back-pure, back-step, back-then, back-then_if, back-last, back-none, back-look, back-same}
-use Rattle.ir_text.proofs.Values.{IsKept, IsWide, local-kept, local-again, global-kept, global-again, integer-kept, integer-again}
+use Rattle.ir_text.proofs.Values.{IsKept, local-kept, local-again, global-kept, global-again, integer-kept, integer-again}
 use Rattle.ir_text.proofs.FixedTokens.{sign-fixed, word-fixed, local-fixed, global-fixed, number-fixed}
 use Rattle.ir_text.proofs.ListsBack.{Element, further-back}
 use Rattle.ir_text.proofs.TypesBack.{TypeBack, type-begins, type-gives}
@@ -220,6 +221,15 @@ begun-back : (s : OperandStart) (x : Opd) → Begun s x → OperandBack x
 unfolding operand
 begun-back s x b = record { back = back-look operand_start operand_by s _ x _ (λ after _. b.starts after) b.back; head = b.head }
 
+pub number-back : (z : ℤ) → IsWide z → OperandBack (opd.Number z)
+number-back z k = begun-back operands.Number _ (number-begun z k)
+
+pub true-back : OperandBack opd.True
+true-back = begun-back operands.True _ true-begun
+
+pub false-back : OperandBack opd.False
+false-back = begun-back operands.False _ false-begun
+
 pub operand-gives : Gives operand OperandBack
 unfolding operand
 operand-gives = gives-look operand_start operand_by _ (λ s. gives-map (operand_by s) (Begun s) _ (begun-back s) (operand_by-gives s))
@@ -231,6 +241,5 @@ pub record TypedBack (x : TyText × Opd) : Type 0 where
   pub operand : OperandBack x.1
   pub back : Back typed_operand (typed x.0 x.1) x Always
 
-pub typed-gives : Gives typed_operand TypedBack
-typed-gives = gives-bind _ _ (TypeBack type_text) _ type-gives (λ t b. gives-bind _ _ OperandBack _ operand-gives
-    (λ x c. gives-pure _ _ (record { type = b; operand = c; back = back-then _ _ _ t _ _ _ b.back (back-last _ _ _ x _ c.back) })))
+pub typed-both : (t : TyText) (x : Opd) → TypeBack type_text t → OperandBack x → TypedBack (t, x)
+typed-both t x b c = record { type = b; operand = c; back = back-then _ _ _ t _ _ _ b.back (back-last _ _ _ x _ c.back) }

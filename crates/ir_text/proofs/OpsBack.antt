@@ -35,17 +35,21 @@ use Rattle.ir_text.specs.Spelling as canon
 use Rattle.ir_text.specs.Spelling.{word, sign, comma, local, binary_word, cast_word}
 use Rattle.ir_text.specs.Parts as parts
 use Rattle.ir_text.specs.Parts.{type_lexemes, operand_lexemes, typed, op_lexemes, joined}
-use Rattle.ir_text.proofs.Gives.{EachOf, SomeOf, Gives, Any, gives-map, gives-bind, gives-pure, gives-one, gives-refuse, gives-look, gives-where_it, gives-many}
+use Rattle.ir_text.proofs.Gives.{Gives, Any, gives-map, gives-bind, gives-pure, gives-refuse, gives-look, gives-where_it, gives-many}
 use Rattle.ir_text.proofs.Gives.{gives-further, gives-some_listed, gives-listed, any-one}
 use Rattle.ir_text.proofs.Back.{Always, Back, back-pure, back-one, back-step, back-then, back-then_if, back-last, back-none, back-look, back-yes, back-no}
 use Rattle.ir_text.proofs.Back.{back-same, back-under, back-any}
-use Rattle.ir_text.proofs.Values.{IsKept, local-kept, local-again, global-kept, global-again}
+use Rattle.ir_text.proofs.Values.{IsKept, local-again, global-again}
 use Rattle.ir_text.proofs.FixedTokens.{sign-fixed, word-fixed, binary-fixed, cast-fixed, predicate-fixed, local-fixed, global-fixed}
 use Rattle.ir_text.proofs.ListsBack.{Element, many-back, further-back, some-back, Closes, listed-back}
 use Rattle.ir_text.proofs.TypesBack.{TypeHead, TypeBack, type-head, type-begins, type-gives, head-sees_type, lexemes-Void}
 use Rattle.ir_text.proofs.Skipped.{flagged-any, flagged-none, word_flags-any, word_flags-none, optional-any, back-optional, skipped-any, skipped-none}
 use Rattle.ir_text.proofs.Skipped.{head-no_skip, head-no_flag, head-no_word}
-use Rattle.ir_text.proofs.OperandsBack.{OperandBack, operand-no_skip, operand-gives, TypedBack, typed-gives}
+use Rattle.ir_text.proofs.OperandsBack.{OperandBack, operand-no_skip, TypedBack}
+use Rattle.ir_text.specs.ReadBack.{EachOf, SomeOf, IfAny, TypeReadsBack, ResultReadsBack, OperandReadsBack, TypedReadsBack, LocalReadsBack, GlobalReadsBack}
+use Rattle.ir_text.specs.ReadBack.{EntryReadsBack, CaseReadsBack, PartsReadBack}
+use Rattle.ir_text.proofs.PartsBack.{back-text, text-gives, type-back, type_reads-gives, operand-back, operand_reads-gives, typed-back, typed_reads-gives}
+use Rattle.ir_text.proofs.PartsBack.{local-kept_back, local_reads-gives, global-kept_back, global_reads-gives}
 
 -- what may stand behind an item
 pub record Behind (after : Lexemes) : Type 0 where
@@ -116,10 +120,10 @@ binary-back b t x y k h g = started (ops.Bin b) _ (binary_word b) _ refl (binary
     (back-then _ _ _ t _ _ _ k.back (back-then _ _ _ x _ _ _ h.back (back-step _ _ _ tt _ _ _ (sign-fixed 44 refl) refl
     (back-last _ _ _ y _ (back-any _ _ _ _ g.back)))))))
 
-binary-gives : (b : BinOp) → Gives (rules.binary b) OpBack
-binary-gives b = gives-bind _ _ Any _ (word_flags-any _) (λ _ _. gives-bind _ _ (TypeBack type_text) _ type-gives
-    (λ t k. gives-bind _ _ OperandBack _ operand-gives (λ x h. gives-bind _ _ Any _ (any-one _) (λ _ _.
-    gives-bind _ _ OperandBack _ operand-gives (λ y g. gives-pure _ _ (binary-back b t x y k h g))))))
+binary-gives : (b : BinOp) → Gives (rules.binary b) PartsReadBack
+binary-gives b = gives-bind _ _ Any _ (word_flags-any _) (λ _ _. gives-bind _ _ TypeReadsBack _ type_reads-gives
+    (λ t k. gives-bind _ _ OperandReadsBack _ operand_reads-gives (λ x h. gives-bind _ _ Any _ (any-one _) (λ _ _.
+    gives-bind _ _ OperandReadsBack _ operand_reads-gives (λ y g. gives-pure _ PartsReadBack (k, h, g))))))
 
 -- ---- icmp
 
@@ -160,10 +164,10 @@ compare-back p t x y k h g = started ops.Cmp _ (codes "icmp") _ refl icmp-known
     (back-then _ _ _ t _ _ _ k.back (back-then _ _ _ x _ _ _ h.back (back-step _ _ _ tt _ _ _ (sign-fixed 44 refl) refl
     (back-last _ _ _ y _ (back-any _ _ _ _ g.back))))))))
 
-compare-gives : Gives rules.compare OpBack
-compare-gives = gives-bind _ _ Any _ (optional-any _) (λ _ _. gives-bind _ _ Any _ (any-one _) (λ p _. gives-bind _ _ (TypeBack type_text) _ type-gives
-    (λ t k. gives-bind _ _ OperandBack _ operand-gives (λ x h. gives-bind _ _ Any _ (any-one _) (λ _ _.
-    gives-bind _ _ OperandBack _ operand-gives (λ y g. gives-pure _ _ (compare-back p t x y k h g)))))))
+compare-gives : Gives rules.compare PartsReadBack
+compare-gives = gives-bind _ _ Any _ (optional-any _) (λ _ _. gives-bind _ _ Any _ (any-one _) (λ p _. gives-bind _ _ TypeReadsBack _ type_reads-gives
+    (λ t k. gives-bind _ _ OperandReadsBack _ operand_reads-gives (λ x h. gives-bind _ _ Any _ (any-one _) (λ _ _.
+    gives-bind _ _ OperandReadsBack _ operand_reads-gives (λ y g. gives-pure _ PartsReadBack (k, h, g)))))))
 
 -- ---- select, casts, freeze
 
@@ -178,10 +182,10 @@ select-back c x y k h g = started ops.Select _ (codes "select") _ refl select-kn
     (back-then _ _ _ c _ _ _ k.back (back-step _ _ _ tt _ _ _ (sign-fixed 44 refl) refl
     (back-then _ _ _ x _ _ _ h.back (back-step _ _ _ tt _ _ _ (sign-fixed 44 refl) refl (back-last _ _ _ y _ (back-any _ _ _ _ g.back)))))))
 
-select-gives : Gives rules.select OpBack
-select-gives = gives-bind _ _ TypedBack _ typed-gives (λ c k. gives-bind _ _ Any _ (any-one _)
-    (λ _ _. gives-bind _ _ TypedBack _ typed-gives (λ x h. gives-bind _ _ Any _ (any-one _) (λ _ _.
-    gives-bind _ _ TypedBack _ typed-gives (λ y g. gives-pure _ _ (select-back c x y k h g))))))
+select-gives : Gives rules.select PartsReadBack
+select-gives = gives-bind _ _ TypedReadsBack _ typed_reads-gives (λ c k. gives-bind _ _ Any _ (any-one _)
+    (λ _ _. gives-bind _ _ TypedReadsBack _ typed_reads-gives (λ x h. gives-bind _ _ Any _ (any-one _) (λ _ _.
+    gives-bind _ _ TypedReadsBack _ typed_reads-gives (λ y g. gives-pure _ PartsReadBack (k, h, g))))))
 
 cast-known : (c : Cast) → Known (ops.Cast c) (cast_word c)
 unfolding op_word skip_word is_stop_word item_word
@@ -202,9 +206,9 @@ cast-back c x to h k = started (ops.Cast c) _ (cast_word c) _ refl (cast-known c
     (back-then _ _ _ x _ _ _ h.back (back-step _ _ _ tt _ _ _ (word-fixed (codes "to") refl (omega arith) refl) refl
     (back-last _ _ _ to _ (back-any _ _ _ _ k.back))))))
 
-cast-gives : (c : Cast) → Gives (rules.conversion c) OpBack
-cast-gives c = gives-bind _ _ Any _ (word_flags-any _) (λ _ _. gives-bind _ _ TypedBack _ typed-gives
-    (λ x h. gives-bind _ _ Any _ (any-one _) (λ _ _. gives-bind _ _ (TypeBack type_text) _ type-gives (λ to k. gives-pure _ _ (cast-back c x to h k)))))
+cast-gives : (c : Cast) → Gives (rules.conversion c) PartsReadBack
+cast-gives c = gives-bind _ _ Any _ (word_flags-any _) (λ _ _. gives-bind _ _ TypedReadsBack _ typed_reads-gives
+    (λ x h. gives-bind _ _ Any _ (any-one _) (λ _ _. gives-bind _ _ TypeReadsBack _ type_reads-gives (λ to k. gives-pure _ PartsReadBack (h, k)))))
 
 freeze-known : Known ops.Freeze (codes "freeze")
 unfolding op_word skip_word is_stop_word item_word
@@ -215,8 +219,8 @@ unfolding op_lexemes
 freeze-back x h = started ops.Freeze _ (codes "freeze") _ refl freeze-known
     (back-step _ _ _ tt _ _ _ (word-fixed (codes "freeze") refl (omega arith) refl) refl (back-last _ _ _ x _ (back-any _ _ _ _ h.back)))
 
-freeze-gives : Gives rules.freeze OpBack
-freeze-gives = gives-bind _ _ TypedBack _ typed-gives (λ x h. gives-pure _ _ (freeze-back x h))
+freeze-gives : Gives rules.freeze PartsReadBack
+freeze-gives = gives-bind _ _ TypedReadsBack _ typed_reads-gives (λ x h. gives-pure _ PartsReadBack h)
 
 -- ---- memory
 
@@ -227,13 +231,16 @@ alloca-known = record { op = refl; no_skip = refl; no_item = refl; no_type = ref
 CountBack : Option (TyText × Opd) → Type 0
 CountBack n = Back rules.count (parts.count n) n Behind
 
-count-gives : Gives rules.count CountBack
+count-back : (n : Option (TyText × Opd)) → IfAny TypedReadsBack n → CountBack n
 unfolding CountBack
+count-back None h = back-no (comma_then sees_type) _ _ [] None _ (λ after b. no_comma_then sees_type after b) (back-pure _ _)
+count-back (Some x) h = let k = typed-back x h in back-yes (comma_then sees_type) _ _ _ (Some x) _ (λ after _. type-begins _ x.0 _ k.type after)
+    (back-last (rule.sign 44 >> typed_operand) Some _ x _ (back-step _ _ _ tt _ _ _ (sign-fixed 44 refl) refl (back-any _ _ _ _ k.back)))
+
+count-gives : Gives rules.count (IfAny TypedReadsBack)
 count-gives = gives-where_it _ _ _ _
-    (gives-bind _ _ TypedBack _ (gives-bind _ _ Any _ (any-one _) (λ _ _. typed-gives))
-    (λ x h. gives-pure _ _ (back-yes (comma_then sees_type) _ _ _ (Some x) _ (λ after _. type-begins _ x.0 _ h.type after)
-    (back-last (rule.sign 44 >> typed_operand) Some _ x _ (back-step _ _ _ tt _ _ _ (sign-fixed 44 refl) refl (back-any _ _ _ _ h.back))))))
-    (gives-pure _ _ (back-no (comma_then sees_type) _ _ [] None _ (λ after h. no_comma_then sees_type after h) (back-pure _ _)))
+    (gives-bind _ _ TypedReadsBack _ (gives-bind _ _ Any _ (any-one _) (λ _ _. typed_reads-gives)) (λ x h. gives-pure _ (IfAny TypedReadsBack) h))
+    (gives-pure _ (IfAny TypedReadsBack) tt)
 
 alloca-back : (t : TyText) (n : Option (TyText × Opd)) → TypeBack type_text t → CountBack n → OpBack (op.Alloca t n)
 unfolding op_lexemes CountBack
@@ -241,8 +248,9 @@ alloca-back t n k h = started ops.Alloca _ (codes "alloca") _ refl alloca-known
     (back-step _ _ _ tt _ _ _ (word-fixed (codes "alloca") refl (omega arith) refl) refl
     (back-then _ _ _ t _ _ _ k.back (back-last _ _ _ n _ h)))
 
-alloca-gives : Gives rules.alloca OpBack
-alloca-gives = gives-bind _ _ (TypeBack type_text) _ type-gives (λ t k. gives-bind _ _ CountBack _ count-gives (λ n h. gives-pure _ _ (alloca-back t n k h)))
+alloca-gives : Gives rules.alloca PartsReadBack
+alloca-gives = gives-bind _ _ TypeReadsBack _ type_reads-gives
+    (λ t k. gives-bind _ _ (IfAny TypedReadsBack) _ count-gives (λ n h. gives-pure _ PartsReadBack (k, h)))
 
 load-known : Known ops.Load (codes "load")
 unfolding op_word skip_word is_stop_word item_word
@@ -254,9 +262,9 @@ load-back t x k h = started ops.Load _ (codes "load") _ refl load-known (back-st
     (back-optional (codes "volatile") _ _ _ _ (λ after _. (head-no_word _ (type-head _ t _ k after)).2)
     (back-then _ _ _ t _ _ _ k.back (back-step _ _ _ tt _ _ _ (sign-fixed 44 refl) refl (back-last _ _ _ x _ (back-any _ _ _ _ h.back))))))
 
-load-gives : Gives rules.load OpBack
-load-gives = gives-bind _ _ Any _ (optional-any _) (λ _ _. gives-bind _ _ (TypeBack type_text) _ type-gives
-    (λ t k. gives-bind _ _ Any _ (any-one _) (λ _ _. gives-bind _ _ TypedBack _ typed-gives (λ x h. gives-pure _ _ (load-back t x k h)))))
+load-gives : Gives rules.load PartsReadBack
+load-gives = gives-bind _ _ Any _ (optional-any _) (λ _ _. gives-bind _ _ TypeReadsBack _ type_reads-gives
+    (λ t k. gives-bind _ _ Any _ (any-one _) (λ _ _. gives-bind _ _ TypedReadsBack _ typed_reads-gives (λ x h. gives-pure _ PartsReadBack (k, h)))))
 
 store-known : Known ops.Store (codes "store")
 unfolding op_word skip_word is_stop_word item_word
@@ -268,9 +276,9 @@ store-back x y h k = started ops.Store _ (codes "store") _ refl store-known (bac
     (back-optional (codes "volatile") _ _ _ _ (λ after _. (head-no_word _ (typed-head x _ h after)).2)
     (back-then _ _ _ x _ _ _ h.back (back-step _ _ _ tt _ _ _ (sign-fixed 44 refl) refl (back-last _ _ _ y _ (back-any _ _ _ _ k.back))))))
 
-store-gives : Gives rules.store OpBack
-store-gives = gives-bind _ _ Any _ (optional-any _) (λ _ _. gives-bind _ _ TypedBack _ typed-gives
-    (λ x h. gives-bind _ _ Any _ (any-one _) (λ _ _. gives-bind _ _ TypedBack _ typed-gives (λ y k. gives-pure _ _ (store-back x y h k)))))
+store-gives : Gives rules.store PartsReadBack
+store-gives = gives-bind _ _ Any _ (optional-any _) (λ _ _. gives-bind _ _ TypedReadsBack _ typed_reads-gives
+    (λ x h. gives-bind _ _ Any _ (any-one _) (λ _ _. gives-bind _ _ TypedReadsBack _ typed_reads-gives (λ y k. gives-pure _ PartsReadBack (h, k)))))
 
 -- ---- getelementptr
 
@@ -281,9 +289,11 @@ get-known = record { op = refl; no_skip = refl; no_item = refl; no_type = refl }
 TypedElement : TyText × Opd → Type 0
 TypedElement x = Element sees_type typed_operand (parts.typed_operand x) x Always
 
-typed-element : (x : TyText × Opd) → TypedBack x → TypedElement x
+typed-elements : (xs : List (TyText × Opd)) → EachOf TypedReadsBack xs → EachOf TypedElement xs
 unfolding TypedElement
-typed-element x h = record { back = h.back; begins_so = λ after. type-begins _ x.0 _ h.type after }
+typed-elements [] h = tt
+typed-elements (x ∷ xs) (h, hs) =
+    let k = typed-back x h in (record { back = k.back; begins_so = λ after. type-begins _ x.0 _ k.type after }, typed-elements xs hs)
 
 get-back : (of : TyText) (base : TyText × Opd) (indices : List (TyText × Opd)) → TypeBack type_text of → TypedBack base → EachOf TypedElement indices
     → OpBack (op.Get of base.0 base.1 indices)
@@ -295,11 +305,11 @@ get-back of base indices k h es = started ops.Get _ (codes "getelementptr") _ re
     (back-last _ _ _ indices _ (back-under _ _ _ Behind _ (λ after b. (no_comma_then sees_type after b, tt))
     (further-back sees_type typed_operand parts.typed_operand Always (λ _. tt) indices es))))))))
 
-get-gives : Gives rules.get OpBack
-get-gives = gives-bind _ _ Any _ flagged-any (λ _ _. gives-bind _ _ (TypeBack type_text) _ type-gives
-    (λ of k. gives-bind _ _ Any _ (any-one _) (λ _ _. gives-bind _ _ TypedBack _ typed-gives (λ base h.
-    gives-bind _ _ (EachOf TypedElement) _ (gives-further sees_type _ TypedElement (gives-map _ _ _ typed-element typed-gives))
-    (λ indices es. gives-pure _ _ (get-back of base indices k h es))))))
+get-gives : Gives rules.get PartsReadBack
+get-gives = gives-bind _ _ Any _ flagged-any (λ _ _. gives-bind _ _ TypeReadsBack _ type_reads-gives
+    (λ of k. gives-bind _ _ Any _ (any-one _) (λ _ _. gives-bind _ _ TypedReadsBack _ typed_reads-gives (λ base h.
+    gives-bind _ _ (EachOf TypedReadsBack) _ (gives-further sees_type _ TypedReadsBack typed_reads-gives)
+    (λ indices es. gives-pure _ PartsReadBack (k, h, es))))))
 
 -- ---- phi
 
@@ -310,29 +320,36 @@ phi-known = record { op = refl; no_skip = refl; no_item = refl; no_type = refl }
 EntryBack : Opd × Name → Type 0
 EntryBack e = Element (sees_sign 91) rules.entry (parts.entry e) e Always
 
-entry-gives : Gives rules.entry EntryBack
+entry-element : (e : Opd × Name) → EntryReadsBack e → EntryBack e
 unfolding EntryBack
-entry-gives = gives-bind _ _ Any _ (any-one _) (λ _ _. gives-bind _ _ OperandBack _ operand-gives
-    (λ x h. gives-bind _ _ Any _ (any-one _) (λ _ _. gives-bind _ _ IsKept _ (gives-one _ IsKept local-kept) (λ n k. gives-bind _ _ Any _ (any-one _) (λ _ _.
-    gives-pure _ _ (record {
-      back = back-step _ _ _ tt _ _ _ (sign-fixed 91 refl) refl
-          (back-then _ _ _ x _ _ _ h.back (back-step _ _ _ tt _ _ _ (sign-fixed 44 refl) refl (back-step _ _ _ n _ _ _ (local-fixed n k) (local-again n k)
-          (back-step _ _ _ tt _ _ _ (sign-fixed 93 refl) refl (back-pure _ _)))));
-      begins_so = λ after. refl;
-    }))))))
+entry-element (x, n) (h, g) = let k = local-kept_back n g in record {
+  back = back-step _ _ _ tt _ _ _ (sign-fixed 91 refl) refl (back-then _ _ _ x _ _ _ (operand-back x h).back
+      (back-step _ _ _ tt _ _ _ (sign-fixed 44 refl) refl (back-step _ _ _ n _ _ _ (local-fixed n k) (local-again n k)
+      (back-step _ _ _ tt _ _ _ (sign-fixed 93 refl) refl (back-pure _ _)))));
+  begins_so = λ after. refl;
+}
 
-phi-back : (t : TyText) (entries : List (Opd × Name)) → TypeBack type_text t → SomeOf EntryBack entries → OpBack (op.Phi t entries)
+entry-elements : (es : List (Opd × Name)) → EachOf EntryReadsBack es → EachOf EntryBack es
+entry-elements [] h = tt
+entry-elements (e ∷ es) (h, hs) = (entry-element e h, entry-elements es hs)
+
+entry-gives : Gives rules.entry EntryReadsBack
+entry-gives = gives-bind _ _ Any _ (any-one _) (λ _ _. gives-bind _ _ OperandReadsBack _ operand_reads-gives
+    (λ x h. gives-bind _ _ Any _ (any-one _) (λ _ _. gives-bind _ _ LocalReadsBack _ local_reads-gives (λ n k. gives-bind _ _ Any _ (any-one _) (λ _ _.
+    gives-pure _ EntryReadsBack (h, k))))))
+
+phi-back : (t : TyText) (entries : List (Opd × Name)) → TypeBack type_text t → SomeOf EntryReadsBack entries → OpBack (op.Phi t entries)
 unfolding op_lexemes EntryBack
 phi-back t [] k es = absurd es
-phi-back t (e ∷ entries) k es = started ops.Phi _ (codes "phi") _ refl phi-known
+phi-back t (e ∷ entries) k (h, hs) = started ops.Phi _ (codes "phi") _ refl phi-known
     (back-step _ _ _ tt _ _ _ (word-fixed (codes "phi") refl (omega arith) refl) refl
     (back-then _ _ _ t _ _ _ k.back (back-last _ _ _ (e ∷ entries) _ (back-under _ _ _ Behind _ (λ after b. (no_comma_then (sees_sign 91) after b, tt))
-    (some-back (sees_sign 91) rules.entry parts.entry Always (λ _. tt) e entries es)))))
+    (some-back (sees_sign 91) rules.entry parts.entry Always (λ _. tt) e entries (entry-element e h, entry-elements entries hs))))))
 
-phi-gives : Gives rules.phi OpBack
-phi-gives = gives-bind _ _ (TypeBack type_text) _ type-gives
-    (λ t k. gives-bind _ _ (SomeOf EntryBack) _ (gives-some_listed (sees_sign 91) _ EntryBack entry-gives)
-    (λ entries es. gives-pure _ _ (phi-back t entries k es)))
+phi-gives : Gives rules.phi PartsReadBack
+phi-gives = gives-bind _ _ TypeReadsBack _ type_reads-gives
+    (λ t k. gives-bind _ _ (SomeOf EntryReadsBack) _ (gives-some_listed (sees_sign 91) _ EntryReadsBack entry-gives)
+    (λ entries es. gives-pure _ PartsReadBack (k, es)))
 
 -- ---- call
 
@@ -360,17 +377,27 @@ scalar-back t k = record {
 pub result-gives : Gives result_type ResultBack
 result-gives = gives-where_it _ _ _ _ (gives-bind _ _ Any _ (any-one _) (λ _ _. gives-pure _ _ void-back)) (gives-map type_text _ _ scalar-back type-gives)
 
+result_reads-gives : Gives result_type ResultReadsBack
+result_reads-gives = gives-map _ ResultBack _ (λ t k. back-text result_type (type_lexemes t) t Always k.back tt) result-gives
+
 ArgumentBack : TyText × Opd → Type 0
 ArgumentBack x = Element sees_type rules.argument (parts.typed_operand x) x Always
 
-argument-gives : Gives rules.argument ArgumentBack
+argument-elements : (xs : List (TyText × Opd)) → EachOf TypedReadsBack xs → EachOf ArgumentBack xs
 unfolding ArgumentBack
-argument-gives = gives-bind _ _ (TypeBack type_text) _ type-gives
-    (λ t k. gives-bind _ _ Any _ skipped-any (λ _ _. gives-bind _ _ OperandBack _ operand-gives (λ x h. gives-pure _ _ (record {
-      back = back-then _ _ _ t _ _ _ k.back (back-none skipped _ _ _ _ (λ after _. skipped-none _ (operand-no_skip _ (h.head after)))
-          (back-last _ _ _ x _ h.back));
-      begins_so = type-begins _ t _ k;
-    }))))
+argument-elements [] h = tt
+argument-elements ((t, x) ∷ xs) ((a, b), hs) = let k = type-back t a in let g = operand-back x b in (
+  record {
+    back = back-then _ _ _ t _ _ _ k.back (back-none skipped _ _ _ _ (λ after _. skipped-none _ (operand-no_skip _ (g.head after)))
+        (back-last _ _ _ x _ g.back));
+    begins_so = type-begins _ t _ k;
+  },
+  argument-elements xs hs,
+)
+
+argument-gives : Gives rules.argument TypedReadsBack
+argument-gives = gives-bind _ _ TypeReadsBack _ type_reads-gives
+    (λ t k. gives-bind _ _ Any _ skipped-any (λ _ _. gives-bind _ _ OperandReadsBack _ operand_reads-gives (λ x h. gives-pure _ TypedReadsBack (k, h))))
 
 call-known : Known ops.Call (codes "call")
 unfolding op_word skip_word is_stop_word item_word
@@ -390,11 +417,11 @@ call-back t n arguments k h es = started ops.Call _ (codes "call") _ refl call-k
     (λ after _. call-closes after) (back-step _ _ _ tt _ _ _ (sign-fixed 41 refl) refl
     (back-none skipped _ _ _ _ (λ after b. skipped-none after b.no_skip) (back-pure _ _)))))))))
 
-call-gives : Gives rules.call OpBack
-call-gives = gives-bind _ _ Any _ skipped-any (λ _ _. gives-bind _ _ ResultBack _ result-gives (λ t k. gives-bind _ _ IsKept _ (gives-one _ IsKept global-kept)
-    (λ n h. gives-bind _ _ Any _ (any-one _) (λ _ _.
-    gives-bind _ _ (EachOf ArgumentBack) _ (gives-listed sees_type _ ArgumentBack argument-gives) (λ arguments es. gives-bind _ _ Any _ (any-one _)
-    (λ _ _. gives-bind _ _ Any _ skipped-any (λ _ _. gives-pure _ _ (call-back t n arguments k h es))))))))
+call-gives : Gives rules.call PartsReadBack
+call-gives = gives-bind _ _ Any _ skipped-any (λ _ _. gives-bind _ _ ResultReadsBack _ result_reads-gives (λ t k. gives-bind _ _ GlobalReadsBack _
+    global_reads-gives (λ n h. gives-bind _ _ Any _ (any-one _) (λ _ _.
+    gives-bind _ _ (EachOf TypedReadsBack) _ (gives-listed sees_type _ TypedReadsBack argument-gives) (λ arguments es. gives-bind _ _ Any _ (any-one _)
+    (λ _ _. gives-bind _ _ Any _ skipped-any (λ _ _. gives-pure _ PartsReadBack (k, h, es))))))))
 
 -- ---- br, switch, ret, unreachable
 
@@ -405,8 +432,8 @@ br-known = record { op = refl; no_skip = refl; no_item = refl; no_type = refl }
 target-back : (n : Name) (F : Lexemes → Type 0) → IsKept n → Back rules.target (parts.target n) n F
 target-back n F k = back-step _ _ _ tt _ _ _ (word-fixed (codes "label") refl (omega arith) refl) refl (back-one _ _ n _ (local-fixed n k) (local-again n k))
 
-target-gives : Gives rules.target IsKept
-target-gives = gives-bind _ _ Any _ (any-one _) (λ _ _. gives-one _ IsKept local-kept)
+target-gives : Gives rules.target LocalReadsBack
+target-gives = gives-bind _ _ Any _ (any-one _) (λ _ _. local_reads-gives)
 
 jump-back : (to : Name) → IsKept to → OpBack (op.Jump to)
 unfolding op_lexemes
@@ -421,11 +448,11 @@ conditional-back c chosen other h k g = started ops.Branch _ (codes "br") _ refl
     (back-then _ _ _ c _ _ _ h.back (back-step _ _ _ tt _ _ _ (sign-fixed 44 refl) refl (back-then _ _ _ chosen _ _ _ (target-back chosen _ k)
     (back-step _ _ _ tt _ _ _ (sign-fixed 44 refl) refl (back-last _ _ _ other _ (target-back other _ g))))))))
 
-branch-gives : Gives rules.branch OpBack
-branch-gives = gives-where_it _ _ _ _ (gives-bind _ _ IsKept _ target-gives (λ to k. gives-pure _ _ (jump-back to k)))
-    (gives-bind _ _ TypedBack _ typed-gives (λ c h. gives-bind _ _ Any _ (any-one _)
-    (λ _ _. gives-bind _ _ IsKept _ target-gives (λ chosen k. gives-bind _ _ Any _ (any-one _) (λ _ _. gives-bind _ _ IsKept _ target-gives (λ other g.
-    gives-pure _ _ (conditional-back c chosen other h k g)))))))
+branch-gives : Gives rules.branch PartsReadBack
+branch-gives = gives-where_it _ _ _ _ (gives-bind _ _ LocalReadsBack _ target-gives (λ to k. gives-pure _ PartsReadBack k))
+    (gives-bind _ _ TypedReadsBack _ typed_reads-gives (λ c h. gives-bind _ _ Any _ (any-one _)
+    (λ _ _. gives-bind _ _ LocalReadsBack _ target-gives (λ chosen k. gives-bind _ _ Any _ (any-one _) (λ _ _.
+    gives-bind _ _ LocalReadsBack _ target-gives (λ other g. gives-pure _ PartsReadBack (h, k, g)))))))
 
 switch-known : Known ops.Switch (codes "switch")
 unfolding op_word skip_word is_stop_word item_word
@@ -434,13 +461,21 @@ switch-known = record { op = refl; no_skip = refl; no_item = refl; no_type = ref
 CaseBack : TyText × Opd × Name → Type 0
 CaseBack c = Element sees_type rules.case (parts.case c) c Always
 
-case-gives : Gives rules.case CaseBack
+case-elements : (cs : List (TyText × Opd × Name)) → EachOf CaseReadsBack cs → EachOf CaseBack cs
 unfolding CaseBack
-case-gives = gives-bind _ _ TypedBack _ typed-gives (λ x h. gives-bind _ _ Any _ (any-one _)
-    (λ _ _. gives-bind _ _ IsKept _ target-gives (λ to k. gives-pure _ _ (record {
-      back = back-then _ _ _ x _ _ _ h.back (back-step _ _ _ tt _ _ _ (sign-fixed 44 refl) refl (back-last _ _ _ to _ (target-back to _ k)));
-      begins_so = λ after. head-sees_type _ (typed-head x _ h after);
-    }))))
+case-elements [] h = tt
+case-elements ((t, v, to) ∷ cs) ((h, g), hs) = let x : TyText × Opd = (t, v) in let k = typed-back x h in (
+  record {
+    back = back-then _ _ _ x _ _ _ k.back (back-step _ _ _ tt _ _ _ (sign-fixed 44 refl) refl
+        (back-last _ _ _ to _ (target-back to _ (local-kept_back to g))));
+    begins_so = λ after. head-sees_type _ (typed-head x _ k after);
+  },
+  case-elements cs hs,
+)
+
+case-gives : Gives rules.case CaseReadsBack
+case-gives = gives-bind _ _ TypedReadsBack _ typed_reads-gives (λ x h. gives-bind _ _ Any _ (any-one _)
+    (λ _ _. gives-bind _ _ LocalReadsBack _ target-gives (λ to k. gives-pure _ CaseReadsBack (h, k))))
 
 switch-ends : (after : Lexemes) → sees_type (sign 93 ∷ after) ≡ false
 unfolding sees_type type_start
@@ -456,11 +491,11 @@ switch-back x other cases h k es = started ops.Switch _ (codes "switch") _ refl 
     (back-then_if _ _ _ cases _ _ _ _ (many-back sees_type rules.case parts.case Always (λ _ _. tt) cases es) (λ after _. (switch-ends after, tt))
     (back-step _ _ _ tt _ _ _ (sign-fixed 93 refl) refl (back-pure _ _))))))))
 
-switch-gives : Gives rules.switch OpBack
-switch-gives = gives-bind _ _ TypedBack _ typed-gives (λ x h. gives-bind _ _ Any _ (any-one _)
-    (λ _ _. gives-bind _ _ IsKept _ target-gives (λ other k. gives-bind _ _ Any _ (any-one _) (λ _ _.
-    gives-bind _ _ (EachOf CaseBack) _ (gives-many sees_type _ CaseBack case-gives)
-    (λ cases es. gives-bind _ _ Any _ (any-one _) (λ _ _. gives-pure _ _ (switch-back x other cases h k es)))))))
+switch-gives : Gives rules.switch PartsReadBack
+switch-gives = gives-bind _ _ TypedReadsBack _ typed_reads-gives (λ x h. gives-bind _ _ Any _ (any-one _)
+    (λ _ _. gives-bind _ _ LocalReadsBack _ target-gives (λ other k. gives-bind _ _ Any _ (any-one _) (λ _ _.
+    gives-bind _ _ (EachOf CaseReadsBack) _ (gives-many sees_type _ CaseReadsBack case-gives)
+    (λ cases es. gives-bind _ _ Any _ (any-one _) (λ _ _. gives-pure _ PartsReadBack (h, k, es)))))))
 
 ret-known : Known ops.Ret (codes "ret")
 unfolding op_word skip_word is_stop_word item_word
@@ -478,9 +513,9 @@ value-back x h = started ops.Ret _ (codes "ret") _ refl ret-known (back-step _ _
     (back-no (sees_word (codes "void")) _ _ _ _ _ (λ after _. (head-no_word _ (type-head _ x.0 _ h.type after)).0)
     (back-last _ _ _ x _ (back-any _ _ _ _ h.back))))
 
-ret-gives : Gives rules.ret OpBack
-ret-gives = gives-where_it _ _ _ _ (gives-bind _ _ Any _ (any-one _) (λ _ _. gives-pure _ _ nothing-back))
-    (gives-bind _ _ TypedBack _ typed-gives (λ x h. gives-pure _ _ (value-back x h)))
+ret-gives : Gives rules.ret PartsReadBack
+ret-gives = gives-where_it _ _ _ _ (gives-bind _ _ Any _ (any-one _) (λ _ _. gives-pure _ PartsReadBack tt))
+    (gives-bind _ _ TypedReadsBack _ typed_reads-gives (λ x h. gives-pure _ PartsReadBack h))
 
 unreachable-known : Known ops.Unreachable (codes "unreachable")
 unfolding op_word skip_word is_stop_word item_word
@@ -493,7 +528,7 @@ unreachable-back = started ops.Unreachable _ (codes "unreachable") _ refl unreac
 
 -- ---- all of them
 
-op_by-gives : (s : OpStart) → Gives (op_by s) OpBack
+op_by-gives : (s : OpStart) → Gives (op_by s) PartsReadBack
 op_by-gives (ops.Bin b) = gives-bind _ _ Any _ (any-one _) (λ _ _. binary-gives b)
 op_by-gives ops.Cmp = gives-bind _ _ Any _ (any-one _) (λ _ _. compare-gives)
 op_by-gives ops.Select = gives-bind _ _ Any _ (any-one _) (λ _ _. select-gives)
@@ -509,9 +544,30 @@ op_by-gives ops.Call = gives-bind _ _ Any _ (any-one _) (λ _ _. call-gives)
 op_by-gives ops.Branch = gives-bind _ _ Any _ (any-one _) (λ _ _. branch-gives)
 op_by-gives ops.Switch = gives-bind _ _ Any _ (any-one _) (λ _ _. switch-gives)
 op_by-gives ops.Ret = gives-bind _ _ Any _ (any-one _) (λ _ _. ret-gives)
-op_by-gives ops.Unreachable = gives-bind _ _ Any _ (any-one _) (λ _ _. gives-pure _ _ unreachable-back)
+op_by-gives ops.Unreachable = gives-bind _ _ Any _ (any-one _) (λ _ _. gives-pure _ PartsReadBack tt)
 op_by-gives ops.Nothing = gives-refuse _
 
-pub instruction-gives : Gives instruction OpBack
+-- an instruction each of whose parts reads back is read again
+pub op-back : (o : Op) → PartsReadBack o → OpBack o
+op-back (op.Bin b t x y) (k, h, g) = binary-back b t x y (type-back t k) (operand-back x h) (operand-back y g)
+op-back (op.Cmp p t x y) (k, h, g) = compare-back p t x y (type-back t k) (operand-back x h) (operand-back y g)
+op-back (op.Select s c t x u y) (k, h, g) = select-back (s, c) (t, x) (u, y) (typed-back (s, c) k) (typed-back (t, x) h) (typed-back (u, y) g)
+op-back (op.Cast c t x to) (h, k) = cast-back c (t, x) to (typed-back (t, x) h) (type-back to k)
+op-back (op.Freeze t x) h = freeze-back (t, x) (typed-back (t, x) h)
+op-back (op.Alloca t n) (k, h) = alloca-back t n (type-back t k) (count-back n h)
+op-back (op.Load t u x) (k, h) = load-back t (u, x) (type-back t k) (typed-back (u, x) h)
+op-back (op.Store t x u y) (h, g) = store-back (t, x) (u, y) (typed-back (t, x) h) (typed-back (u, y) g)
+op-back (op.Get of t x indices) (k, h, es) = get-back of (t, x) indices (type-back of k) (typed-back (t, x) h) (typed-elements indices es)
+op-back (op.Phi t entries) (k, es) = phi-back t entries (type-back t k) es
+op-back (op.Call t n arguments) (k, h, es) = call-back t n arguments (text-gives result_type ResultBack _ t result-gives k) (global-kept_back n h)
+    (argument-elements arguments es)
+op-back (op.Jump to) k = jump-back to (local-kept_back to k)
+op-back (op.Branch t c chosen other) (h, k, g) = conditional-back (t, c) chosen other (typed-back (t, c) h) (local-kept_back chosen k) (local-kept_back other g)
+op-back (op.Switch t x other cases) (h, k, es) = switch-back (t, x) other cases (typed-back (t, x) h) (local-kept_back other k) (case-elements cases es)
+op-back (op.Ret None) h = nothing-back
+op-back (op.Ret (Some x)) h = value-back x (typed-back x h)
+op-back op.Unreachable h = unreachable-back
+
+pub instruction-gives : Gives instruction PartsReadBack
 unfolding instruction
 instruction-gives = gives-look op_start op_by _ op_by-gives

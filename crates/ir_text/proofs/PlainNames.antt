@@ -5,7 +5,7 @@ use Rattle.std.specs.Char.{is_ascii_digit}
 use Rattle.std.specs.Str.Parse.{digits_value}
 use Rattle.std.proofs.lemmas.Bool.{and_parts, and_from, not-true, lt-ltb, false_from_ne_true}
 use Rattle.std.proofs.lemmas.List.{length-append}
-use Rattle.ir_tokens.specs.Bytes.{Text, NotFirst, is_quote, begins}
+use Rattle.ir_tokens.specs.Bytes.{Text, is_quote, begins}
 use Rattle.ir_tokens.specs.Tokens.{IsQuoted, IsName, IsLabelName, is_digits, is_small_number}
 use Rattle.ir_tokens.specs.Names.{Unescapes, end, backslash, hexadecimal, itself, quoted_value}
 use Rattle.ir_tokens.proofs.Classes.{NotFirst-begins}

@@ -1,9 +1,8 @@
 -- The canonical text of what was read is read as it.
-use Rattle.std.proofs.Common.{◌≡◌, false, ℕ, ◌<◌, zero, suc, ◌-◌, get_or, drop, List, [], ◌∷◌, length, Contains, Option, Some, None, sym, ◌∙◌, subst, arith}
+use Rattle.std.proofs.Common.{◌≡◌, false, ℕ, ◌<◌, zero, suc, get_or, List, [], ◌∷◌, length, Contains, Option, Some, None, sym, ◌∙◌, subst, arith}
 use Rattle.std.proofs.lemmas.List.{append-nil}
 use Rattle.ir_tokens.specs.Bytes.{Text}
 use Rattle.ir_tokens.specs.Tokens.{Fault, HasFault}
-use Rattle.ir_tokens.specs.declared.token.Token.{Token}
 use Rattle.ir_tokens.proofs.Cut.{HasTokens-same, HasTokens-HasFault}
 use Rattle.ir_tree.specs.declared.name.Name.{Name}
 use Rattle.ir_tree.specs.declared.op.Op.{Op}
@@ -16,17 +15,12 @@ use Rattle.ir_grammar.proofs.ModuleLemmas.{module-one}
 use Rattle.ir_text.specs.Parts.{op_lexemes, item_lexemes}
 use Rattle.ir_text.specs.Lines.{canon, instruction_text}
 use Rattle.ir_text.specs.Texts.{AreBytes, IsTextOf}
-use Rattle.ir_text.proofs.Gives.{AllBytes, EachOf}
-use Rattle.ir_text.proofs.Values.{bytes-take, bytes-drop}
-use Rattle.ir_text.proofs.OpsBack.{OpBack}
+use Rattle.ir_text.specs.ReadBack.{EachOf, PartsReadBack}
+use Rattle.ir_text.proofs.PartsBack.{lexemes-bytes}
 use Rattle.ir_text.proofs.ItemsBack.{ItemBack, plain-back, item-gives}
 use Rattle.ir_text.proofs.ModulesBack.{module_lexemes, Kept, module-kept, module-again, nothing-behind}
-use Rattle.ir_text.proofs.LinesCut.{cut-canon, cut-tokens, cut-alone}
-
--- the lexemes of a text of bytes are of bytes
-lexemes-bytes : (text : Text) (ts : List Token) → AreBytes text → AllBytes (lexemes text ts)
-lexemes-bytes text [] h = tt
-lexemes-bytes text (t ∷ ts) h = (bytes-take (t.to - t.from) (drop t.from text) (bytes-drop t.from text h), lexemes-bytes text ts h)
+use Rattle.ir_text.proofs.LinesCut.{cut-canon}
+use Rattle.ir_text.proofs.SpacedCut.{cut-tokens, cut-alone}
 
 text-kept : (text : Text) (items : List Item) → AreBytes text → IsTextOf text items → Kept false items
 text-kept text items h t = module-kept (lexemes text t.tokens) items t.starts (lexemes-bytes text t.tokens h) t.whole
@@ -54,20 +48,19 @@ item-at [] k x bs h e = absurd (omega arith)
 item-at (y ∷ items) zero x (b, bs) h e = subst ItemBack e b
 item-at (y ∷ items) (suc k) x (b, bs) h e = item-at items k x bs (omega arith) e
 
-op-reads : (o : Op) → OpBack o → IsInstruction (instruction_text o) o
+-- one each of whose parts reads back
+pub made-reads : (o : Op) → PartsReadBack o → IsInstruction (instruction_text o) o
 unfolding item_lexemes
-op-reads o b =
-    let plain = (plain-back o b).back in
-    let c = cut-tokens (instruction_text o) (op_lexemes o) (cut-alone (op_lexemes o) b.back.fixed) in
+made-reads o h =
+    let plain = (plain-back o h).back in
+    let c = cut-tokens (instruction_text o) (op_lexemes o) (cut-alone (op_lexemes o) plain.fixed) in
     record { tokens = c.0; cut = c.1; whole = subst (λ ls. AreInstruction ls o) (append-nil (op_lexemes o) ∙ sym c.2) (plain.again [] nothing-behind) }
 
 -- one that stands in a module
-pub instruction-reads : (text : Text) (items : List Item) (n : Option Name) (o : Op) → AreBytes text → IsTextOf text items → Contains items (tree.Instr n o)
-    → IsInstruction (instruction_text o) o
-instruction-reads text items n o h t (k, within, e) = op-reads o (item-at items k (tree.Instr n o) (text-kept text items h t).backs within e).instr
+pub instruction-parts : (text : Text) (items : List Item) (n : Option Name) (o : Op) → AreBytes text → IsTextOf text items → Contains items (tree.Instr n o)
+    → PartsReadBack o
+instruction-parts text items n o h t (k, within, e) = (item-at items k (tree.Instr n o) (text-kept text items h t).backs within e).instr
 
 -- one that is a text by itself
-pub alone-reads : (text : Text) (o : Op) → AreBytes text → IsInstruction text o → IsInstruction (instruction_text o) o
-alone-reads text o h i =
-    let g = item-gives.gives (lexemes text i.tokens) (Some (tree.Instr None o)) [] (lexemes-bytes text i.tokens h) i.whole in
-    op-reads o g.0.instr
+pub alone-parts : (text : Text) (o : Op) → AreBytes text → IsInstruction text o → PartsReadBack o
+alone-parts text o h i = (item-gives.gives (lexemes text i.tokens) (Some (tree.Instr None o)) [] (lexemes-bytes text i.tokens h) i.whole).0.instr

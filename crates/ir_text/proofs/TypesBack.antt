@@ -19,7 +19,8 @@ use Rattle.ir_grammar.specs.Starts.{type_start, type_word, sees_type}
 use Rattle.ir_grammar.specs.Types.{simple, array, struct, nested, type_in, type_text}
 use Rattle.ir_text.specs.Spelling.{width_word, word, sign, local, array_length}
 use Rattle.ir_text.specs.Parts.{with_commas, type_step, type_lexemes}
-use Rattle.ir_text.proofs.Gives.{EachOf, Gives, Any, gives-bind, gives-pure, gives-one, gives-refuse, gives-look, gives-listed, any-one, gives-map}
+use Rattle.ir_text.specs.ReadBack.{EachOf}
+use Rattle.ir_text.proofs.Gives.{Gives, Any, gives-bind, gives-pure, gives-one, gives-refuse, gives-look, gives-listed, any-one, gives-map}
 use Rattle.ir_text.proofs.Back.{Always, Back, back-pure, back-step, back-then, back-then_if, back-look, back-same}
 use Rattle.ir_text.proofs.Values.{IsKept, local-kept, local-again, length-kept, length-again}
 use Rattle.ir_text.proofs.FixedTokens.{sign-fixed, word-fixed, width-fixed, local-fixed, length-fixed}

@@ -1,6 +1,6 @@
 -- Names, numbers and texts stand for the same when they are read again.
 use Rattle.std.proofs.Common.{◌≡◌, ℕ, zero, suc, ◌+◌, ◌-◌, ◌*◌, ◌/◌, ◌%◌, ◌^◌, ◌<◌, ◌≤◌, inl, inr, Bool, true, false, not, cond, ◌&&◌, ◌||◌, nat_lt, nat_le, []}
-use Rattle.std.proofs.Common.{◌∷◌, ◌++◌, length, take, drop, decimal, ℤ, pos, negsuc, neg_ℤ, Option, Some, None, refl, sym, ap, ◌∙◌, subst, arith, eqb-true}
+use Rattle.std.proofs.Common.{◌∷◌, ◌++◌, length, take, drop, decimal, ℤ, pos, negsuc, neg_ℤ, Some, None, refl, sym, ap, ◌∙◌, subst, arith, eqb-true}
 use Rattle.std.proofs.Common.{le-ltb, ltb-false}
 use Rattle.std.specs.Char.{is_ascii_digit, is_ascii_hexdigit, digit_value}
 use Rattle.std.specs.Fmt.{digit_glyph}
@@ -28,6 +28,7 @@ use Rattle.ir_grammar.specs.Words.{cstring_of}
 use Rattle.ir_grammar.proofs.Names.{run-no_quote, quotes-no_digits, first-no_digits}
 use Rattle.ir_text.specs.Spelling as canon
 use Rattle.ir_text.specs.Spelling.{is_shown, escaped_byte, escaped, in_quotes, is_run, is_plain, is_plain_label, spelled_name}
+use Rattle.ir_text.specs.ReadBack.{IsWide}
 use Rattle.ir_text.proofs.Gives.{Bytes}
 
 -- ---- decimals
@@ -266,11 +267,6 @@ pub label-again : (n : Name) → IsKept n → label_of (canon.label n) ≡ Some 
 label-again n k = ap name_of (without_colon (spelled_name is_plain_label n)) ∙ spelled-name is_plain_label plain_label-run n k
 
 -- ---- numbers
-
--- a number of 128 signed bits
-abbrev pub IsWide : ℤ → Type 0
-IsWide (pos n) = n < 2 ^ 127
-IsWide (negsuc n) = n < 2 ^ 127
 
 pub integer-again : (z : ℤ) → IsWide z → integer_of (canon.number z) ≡ Some z
 integer-again (pos n) h =

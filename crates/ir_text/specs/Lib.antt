@@ -3,3 +3,4 @@ pub mod Parts
 pub mod Lines
 pub mod Texts
 pub mod Printing
+pub mod ReadBack

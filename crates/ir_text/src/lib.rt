@@ -15,4 +15,6 @@ mod words;
 
 pub use canonical::{print, print_instruction};
 pub use ir_tree::{Init, Item, Module, Name, Op, Opd, TyText};
-pub use laws::{canon_reads_back, instruction_lines, plain_names};
+pub use laws::{
+    canon_reads_back, instruction_lines, made_instructions, parts_read_back, plain_names,
+};

@@ -1,5 +1,5 @@
 -- The table of the type names says of each type what integer or pointer it stands for.
-use Rattle.std.proofs.Common.{◌≡◌, ℕ, zero, suc, Bool, true, false, List, [], ◌∷◌, length, map, take, ◌≤◌, Option, Some, None, cond, if◌then◌else◌, refl, sym, ap, ◌∙◌, subst}
+use Rattle.std.proofs.Common.{◌≡◌, ℕ, Bool, true, false, List, [], ◌∷◌, length, map, take, ◌≤◌, Option, Some, None, cond, refl, sym, ap, ◌∙◌, subst}
 use Rattle.std.specs.List.{fold}
 use Rattle.std.specs.Option.{option_map}
 use Rattle.code_form.specs.declared.code.TyScalar.{TyScalar}
@@ -13,10 +13,11 @@ use Rattle.ir_tree.specs.declared.item.Item.{Item}
 use Rattle.ir_tree.specs.declared.item.Item.TheVariants as item
 use Rattle.ir_names.specs.Names.{same_name, defined, with_first}
 use Rattle.ir_names.proofs.Defined.{same-eq, defined-firsts}
-use Rattle.ir_rules.specs.Types.{TypeDefs, type_defs, named_type, holds_itself, expand_by, empty, body_or_empty, scalar_of, kind_of, Kinds}
+use Rattle.ir_rules.specs.Types.{TypeDefs, type_defs, scalar_of, kind_of, Kinds}
 use Rattle.ir_scopes.specs.Kinds.{flat, kind_in}
 use Rattle.ir_types.specs.Scalars.{name_kind, with_kind}
 use Rattle.ir_types.proofs.Numbered.{take-all}
+use Rattle.ir_types.proofs.Levels.{unnamed}
 
 abbrev KindsOfNames : Type 0
 KindsOfNames = List (Name × Option TyScalar)
@@ -43,15 +44,6 @@ module _ (kind : Name → Option TyScalar) where
           → cond b (Some (kind d.0)) (defined (map entry defs) n) ≡ option_map (λ (t : TyText). kind n) (cond b (Some d.1) (defined defs n))
       by true e h = ap (λ (m : Name). Some (kind m)) (sym (same-eq n d.0 e))
       by false e h = h
-
-unnamed : (defs : TypeDefs) (k : ℕ) (n : Name) → defined defs n ≡ None → named_type defs k n ≡ empty
-unfolding named_type
-unnamed defs zero n h = refl
-unnamed defs (suc k) n h = by (holds_itself defs n)
-  where
-    by : (b : Bool) → (if b then empty else body_or_empty (expand_by (named_type defs k)) (defined defs n)) ≡ empty
-    by true = refl
-    by false = ap (body_or_empty (expand_by (named_type defs k))) h
 
 abbrev table_of : List Item → KindsOfNames
 table_of items = fold (with_kind (name_kind (type_defs items))) [] items

@@ -55,7 +55,7 @@ module _ (defs : TypeDefs) (nums : List (Name × ℕ)) (e : nums ≡ firsts (num
       by true f =
           let no : ◌≡◌ {A = Option ℕ} None (Some j) = sym p ∙ ap (defined nums) (same-eq m b f) ∙ q in cc
 
-  edges-at : (a : Name) (i : ℕ) (h : Here defs a i) → next_of edges i ≡ numbers_in nums h.body
+  pub edges-at : (a : Name) (i : ℕ) (h : Here defs a i) → next_of edges i ≡ numbers_in nums h.body
   edges-at a i h =
       ap (λ o. unwrap_or o []) (slice_get-map (λ (d : Name × TyText). numbers_in nums d.1) defs i
       ∙ ap (option_map (λ (d : Name × TyText). numbers_in nums d.1)) h.at)

@@ -1,8 +1,11 @@
 pub mod Numbered
 pub mod Numbers
 pub mod Mentioned
-pub mod Rows
-pub mod Levels
+pub mod Grounds
+pub mod Walking
+pub mod Expanded
 pub mod Leading
+pub mod Levels
+pub mod Chains
 pub mod ScalarLayers
 pub mod KindTables

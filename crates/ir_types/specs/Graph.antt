@@ -1,6 +1,6 @@
 -- Which definitions name which, by number.
-use Rattle.std.specs.Prelude.{ℕ, zero, suc, nat_eq, Bool, false, not, ◌||◌, List, [], ◌∷◌, map, flat_map, Option, Some, None, is_some, slice_get, unwrap_or}
-use Rattle.std.specs.List.{list_any}
+use Rattle.std.specs.Prelude.{◌≡◌, ℕ, zero, suc, ◌+◌, nat_eq, Bool, true, false, not, ◌||◌, if◌then◌else◌, List, [], ◌∷◌, length, flat_map, Option, Some, None, is_some, slice_get, unwrap_or}
+use Rattle.std.specs.List.{list_any, count_by}
 use Rattle.ir_tree.specs.declared.name.Name.{Name}
 use Rattle.ir_tree.specs.declared.type_text.TyText.{TyText}
 use Rattle.ir_names.specs.Names.{defined}
@@ -26,10 +26,27 @@ unfoldable pub reaches : List (List ℕ) → ℕ → ℕ → ℕ → Bool
 reaches es zero a b = false
 reaches es (suc k) a b = list_any (λ c. nat_eq c b || reaches es k c b) (next_of es a)
 
--- which definitions lead to one in a step more, where `row` has those that lead to it
-abbrev pub next_row : List (List ℕ) → ℕ → List Bool → List Bool
-next_row es b row = map (λ cs. list_any (λ c. nat_eq c b || unwrap_or (slice_get row c) false) cs) es
+-- ---- flags of definitions
 
-unfoldable pub row_at : List (List ℕ) → ℕ → ℕ → List Bool
-row_at es b zero = []
-row_at es b (suc k) = next_row es b (row_at es b k)
+-- the flag of a definition is set, or there is no such definition
+abbrev pub held : List Bool → ℕ → Bool
+held flags d = unwrap_or (slice_get flags d) true
+
+-- one of the definitions has a flag that isn't set
+abbrev pub some_left : List Bool → List ℕ → Bool
+some_left flags list = list_any (λ c. not (held flags c)) list
+
+abbrev pub tally : List Bool → ℕ
+tally flags = count_by (λ b. b) flags
+
+-- one flag more is set
+pub record SetsFlag (old : List Bool) (d : ℕ) (new : List Bool) : Type 0 where
+  pub flags : (c : ℕ) → held new c ≡ (nat_eq c d || held old c)
+  pub long : length new ≡ length old
+  pub count : tally new ≡ (if held old d then tally old else tally old + 1)
+
+-- the flags are of definitions from which no way leads to one that leads to itself
+pub record AreGrounded (es : List (List ℕ)) (flags : List Bool) : Type 0 where
+  pub long : length flags ≡ length es
+  pub closed : (d : ℕ) → held flags d ≡ true → some_left flags (next_of es d) ≡ false
+  pub none : (k d : ℕ) → held flags d ≡ true → reaches es k d d ≡ false

@@ -3,3 +3,4 @@ pub mod Named
 pub mod Graph
 pub mod Known
 pub mod Scalars
+pub mod Walks

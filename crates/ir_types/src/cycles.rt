@@ -1,85 +1,71 @@
 //! Which definitions contain themselves.
-ghost use Rattle.std.specs.Prelude.{◌≡◌, ℕ, nat_eq, false, ◌||◌, length, slice_get, unwrap_or, IfOk};
-ghost use Rattle.std.specs.List.{list_any};
-ghost use Rattle.ir_types.specs.Graph.{reaches, next_row, row_at};
+ghost use Rattle.std.specs.Prelude.{◌≡◌, ℕ, false, length, slice_get, unwrap_or, IfOk};
+ghost use Rattle.ir_types.specs.Graph.{reaches, AreGrounded};
 
+use crate::flags::{filled, held, set_flag, some_left};
+use crate::walk::{named_by, reaches_itself};
 use am_base::OutOfMemory;
-use am_lists::{Items, Same};
+use am_lists::Items;
 use std::alloc::Global;
 
-/// What a row says of a definition.
-pub fn flag_at(row: &[bool], number: usize) -> bool
-    ensures { result ≡ unwrap_or (slice_get row.now number) false }
+/// Grounds a definition if all that it names are grounded.
+fn ground(edges: &[Items<usize>], grounded: &mut Items<bool>, d: usize)
+    requires { AreGrounded edges.now grounded.old }
+    ensures { AreGrounded edges.now grounded.new }
 {
-    row.get(number).copied().unwrap_or(false)
-}
-
-/// Whether a definition is the one that is sought, or leads to it by what a row says.
-fn leads(row: &[bool], to: usize, number: usize) -> bool
-    ensures { result ≡ (nat_eq number to || unwrap_or (slice_get row.now number) false) }
-{
-    number == to || flag_at(row, number)
-}
-
-/// Whether one of some definitions is the one that is sought, or leads to it by what a row says.
-fn some_leads(list: &[usize], row: &[bool], to: usize) -> bool
-    ensures { result ≡ list_any (λ c. nat_eq c to || unwrap_or (slice_get row.now c) false) list.now }
-{
-    let mut found = false;
-    'each: for number in list {
-        let here = leads(row, to, *number);
-        found = found || here;
+    if !some_left(grounded.as_slice(), named_by(edges, d)) {
+        set_flag(grounded, d);
     }
-    found
 }
 
-/// Returns for each definition whether it leads to another one in a step more than a row says.
-fn next_row_of(
+/// Returns for each definition whether it is grounded: no way from it leads to a definition that
+/// leads to itself. In which order the definitions come decides how many are found.
+fn grounded_of(
     alloc: Global,
     edges: &[Items<usize>],
-    row: &[bool],
-    to: usize,
+    order: &[usize],
 ) -> Result<Items<bool>, OutOfMemory>
-    ensures { IfOk result (λ next. next ≡ next_row edges.now to row.now) }
+    ensures { IfOk result (λ grounded. AreGrounded edges.now grounded) }
 {
-    let mut next = Items::new(alloc);
-    'each: for list in edges {
-        next.push(some_leads(list.as_slice(), row, to))?;
+    let mut grounded = filled(alloc, edges.len(), false)?;
+    'each: for d in order {
+        ground(edges, &mut grounded, *d);
     }
-    Ok(next)
-}
-
-/// Returns for each definition whether it leads to another one.
-fn row_of(alloc: Global, edges: &[Items<usize>], to: usize) -> Result<Items<bool>, OutOfMemory>
-    ensures { IfOk result (λ row. row ≡ row_at edges.now to (length edges.now)) }
-{
-    let mut row = Items::new(alloc);
-    'levels: for _level in 0..edges.len() {
-        let next = next_row_of(alloc, edges, row.as_slice(), to)?;
-        if next.same(&row) {
-            return Ok(row);
-        }
-        row = next;
-    }
-    Ok(row)
+    Ok(grounded)
 }
 
 /// Whether a definition leads to itself.
-fn reaches_itself(alloc: Global, edges: &[Items<usize>], d: usize) -> Result<bool, OutOfMemory>
+fn leads_back(
+    alloc: Global,
+    edges: &[Items<usize>],
+    grounded: &Items<bool>,
+    d: usize,
+) -> Result<bool, OutOfMemory>
+    requires { AreGrounded edges.now grounded.now }
     ensures { IfOk result (λ b. b ≡ reaches edges.now (length edges.now) d d) }
 {
-    let row = row_of(alloc, edges, d)?;
-    Ok(flag_at(row.as_slice(), d))
+    if held(grounded.as_slice(), d) {
+        Ok(false)
+    } else {
+        reaches_itself(alloc, edges, grounded, d)
+    }
 }
 
-/// Returns for each definition whether it leads to itself.
-pub fn recursive_of(alloc: Global, edges: &[Items<usize>]) -> Result<Items<bool>, OutOfMemory>
-    ensures { IfOk result (λ flags. (d : ℕ)
+/// Returns for each definition whether it leads to itself: by one walk along all of them, and by
+/// a walk along the others for each that isn't grounded.
+pub fn recursive_of(
+    alloc: Global,
+    edges: &[Items<usize>],
+    order: &[usize],
+) -> Result<Items<bool>, OutOfMemory>
+    ensures long { IfOk result (λ flags. length flags ≡ length edges.now) }
+    ensures exact { IfOk result (λ flags. (d : ℕ)
         → unwrap_or (slice_get flags d) false ≡ reaches edges.now (length edges.now) d d) }
 {
+    let grounded = grounded_of(alloc, edges, order)?;
     let mut flags = Items::new(alloc);
     'each: for d in 0..edges.len() {
-        flags.push(reaches_itself(alloc, edges, d)?)?;
+        flags.push(leads_back(alloc, edges, &grounded, d)?)?;
     }
     Ok(flags)
 }

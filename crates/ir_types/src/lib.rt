@@ -3,10 +3,13 @@
 
 mod cycles;
 mod definitions;
+mod flags;
 mod level;
 mod mentions;
 mod names;
 mod number;
+mod order;
 mod types;
+mod walk;
 
 pub use types::Types;

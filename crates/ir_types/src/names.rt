@@ -2,7 +2,7 @@
 ghost use Rattle.std.specs.Prelude.{◌≡◌, slice_get, unwrap_or};
 ghost use Rattle.ir_types.specs.Named.{name_number};
 
-use crate::cycles::flag_at;
+use crate::flags::flag_at;
 use ir_names::NameTable;
 use ir_tree::Name;
 

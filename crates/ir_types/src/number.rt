@@ -62,24 +62,3 @@ fn numbers_by(
     }
     Ok(list)
 }
-
-/// Returns the numbers of what some types stand for.
-pub fn numbers_of_bodies(
-    alloc: Global,
-    names: &Names<'_>,
-    table: &mut TypeTable,
-    bodies: &[&TyText],
-) -> Result<Items<u64>, OutOfMemory>
-    requires { let number = name_number names.now.numbers.now names.now.recursive.now names.now.named.now in
-        (n : TheName) → number n < length table.old }
-    ensures kept { Keeps table.old table.new }
-    ensures numbers { let number = name_number names.now.numbers.now names.now.recursive.now names.now.named.now in
-        IfOk result (λ list. map (slice_get table.new) list ≡ map (λ b. Some (expand_by (types_in table.old number) b.now)) bodies.now) }
-{
-    let mut list = Items::new(alloc);
-    'each: for ty in bodies {
-        let number = number_by(alloc, names, table, ty)?;
-        list.push(number as u64)?;
-    }
-    Ok(list)
-}

@@ -7,12 +7,14 @@ ghost use Rattle.ir_scopes.specs.Kinds.{kind_in};
 ghost use Rattle.std.specs.Option.{option_copied};
 ghost use Rattle.ir_types.specs.Scalars.{scalar_from as spec_scalar_from, name_kind, with_kind};
 
-use crate::cycles::{flag_at, recursive_of};
+use crate::cycles::recursive_of;
 use crate::definitions::{bodies_of, numbers_of};
-use crate::level::named_of;
+use crate::flags::flag_at;
+use crate::level::{Graph, named_of};
 use crate::mentions::{edges_of, names_unknown_type};
 use crate::names::Names;
 use crate::number::number_by;
+use crate::order::order_of;
 use am_base::OutOfMemory;
 use am_lists::Items;
 use code_form::TyScalar;
@@ -87,17 +89,27 @@ fn add_kind(
 }
 
 impl<'a> Types<'a> {
-    /// Returns the types of a module.
+    /// Returns the types of a module. It takes about linear time in the module's items where no
+    /// definition contains itself; else there is one walk along the definitions more for each from
+    /// which a way leads to such a definition.
     pub fn of(alloc: Global, items: &'a [Item]) -> Result<Types<'a>, OutOfMemory>
         ensures { IfOk result (λ types. types.defs ≡ type_defs items.now) }
     {
         let numbers = numbers_of(alloc, items)?;
         let bodies = bodies_of(alloc, items)?;
         let edges = edges_of(alloc, &numbers, bodies.as_slice())?;
-        let recursive = recursive_of(alloc, edges.as_slice())?;
+        let order = order_of(alloc, edges.as_slice())?;
+        let recursive = recursive_of(alloc, edges.as_slice(), order.as_slice())?;
         let mut table = TypeTable::new(alloc);
         table.add(alloc, Shape::Struct(Items::new(alloc)))?;
-        let named = named_of(alloc, items, &numbers, recursive.as_slice(), &mut table)?;
+        let graph = Graph {
+            items,
+            bodies: bodies.as_slice(),
+            edges: edges.as_slice(),
+            numbers: &numbers,
+            recursive: recursive.as_slice(),
+        };
+        let named = named_of(alloc, &graph, order.as_slice(), &mut table)?;
         Ok(Types {
             items,
             numbers,

@@ -1,12 +1,12 @@
 -- Masks of equal words, bit by bit.
-use Rattle.std.proofs.Common.{◌≡◌, ℕ, suc, ◌+◌, ◌-◌, ◌*◌, ◌/◌, ◌%◌, ◌^◌, ◌<◌, ◌≤◌, List, Bool, true, false, cond, inl, inr, length, map, take, drop, get_or}
-use Rattle.std.proofs.Common.{bit_and, arith, ap, sym, ◌∙◌, refl, drop-cons, length-drop}
+use Rattle.std.proofs.Common.{◌≡◌, ℕ, suc, ◌+◌, ◌-◌, ◌*◌, ◌/◌, ◌%◌, ◌^◌, ◌<◌, ◌≤◌, List, [], ◌∷◌, ◌++◌, Bool, true, false, cond, inl, inr, length, map, take, drop}
+use Rattle.std.proofs.Common.{get_or, bit_and, arith, ap, sym, subst, ◌∙◌, refl, drop-cons, drop-drop, length-drop, take-add, pow-suc, mul_assoc}
 use Rattle.std.specs.Prelude.{nat_eq, IsBitSet, ◌↔◌}
-use Rattle.std.specs.Simd.Lanes.{chunk}
-use Rattle.std.proofs.lemmas.List.{length-map, take_all, take-map, drop-map, get_or-map, get_or_past}
+use Rattle.std.specs.Simd.Lanes.{chunk, mask_l}
+use Rattle.std.proofs.lemmas.List.{length-map, map-append, take_all, take-map, drop-map, get_or-map, get_or_past}
 use Rattle.std.proofs.lemmas.Bool.{cases_Bool, eqb-true, eq-eqb}
 use Rattle.std.proofs.lemmas.Nat.{and_mask, bit_set_by_shift}
-use Rattle.std.proofs.lemmas.Simd.{mask_l-lt, bit_mask_l, get_or-chunk}
+use Rattle.std.proofs.lemmas.Simd.{mask_l-lt, bit_mask_l, get_or-chunk, length-chunk}
 use Rattle.std.proofs.Math.Nat.{pow-le-pow_right}
 use mir.Val.{bool_byte}
 use Rattle.lane_ops.specs.Mask.{mask_of}
@@ -18,6 +18,30 @@ byte_of false = refl
 pub byte_small : (b : Bool) → bool_byte b < 2
 byte_small true = omega arith
 byte_small false = omega arith
+
+-- the mask of a list after another one is above that of the first
+mask_append : (ms ns : List Bool) → mask_l (ms ++ ns) ≡ mask_l ms + mask_l ns * 2 ^ length ms
+mask_append [] ns = omega arith
+mask_append (m ∷ ms) ns =
+    let rest : mask_l (ms ++ ns) ≡ mask_l ms + mask_l ns * 2 ^ length ms = mask_append ms ns in
+    let above : mask_l ns * 2 ^ suc (length ms) ≡ mask_l ns * 2 ^ length ms * 2 = ap (λ n. mask_l ns * n) (pow-suc 2 (length ms)) ∙ sym (mul_assoc (mask_l ns) (2 ^ length ms) 2) in
+    omega (arith, rest, above)
+
+-- a mask of n lanes is below 2 ^ n
+pub mask_below : (x : ℕ) (a : List ℕ) (at n : ℕ) → at + n ≤ length a → mask_of x (chunk at n a) < 2 ^ n
+mask_below x a at n h =
+    let long : length (map (λ y. nat_eq y x) (chunk at n a)) ≡ n = length-map (chunk at n a) (λ y. nat_eq y x) ∙ length-chunk at n a h in
+    subst (λ k. mask_of x (chunk at n a) < 2 ^ k) long (mask_l-lt (map (λ y. nat_eq y x) (chunk at n a)))
+
+-- the masks of n lanes and of the next m
+pub mask_joined : (x : ℕ) (a : List ℕ) (at n m : ℕ) → at + n ≤ length a → mask_of x (chunk at (n + m) a) ≡ mask_of x (chunk at n a) + mask_of x (chunk (at + n) m a) * 2 ^ n
+mask_joined x a at n m h =
+    let p : ℕ → Bool = λ y. nat_eq y x in
+    let long : length (map p (chunk at n a)) ≡ n = length-map (chunk at n a) p ∙ length-chunk at n a h in
+    ap (mask_of x) (take-add n m (drop at a) ∙ ap (λ xs. chunk at n a ++ take m xs) (drop-drop n at a))
+    ∙ ap mask_l (map-append p (chunk at n a) (chunk (at + n) m a))
+    ∙ mask_append (map p (chunk at n a)) (map p (chunk (at + n) m a))
+    ∙ ap (λ k. mask_of x (chunk at n a) + mask_of x (chunk (at + n) m a) * 2 ^ k) long
 
 -- one more lane before the others
 pub mask_more : (x : ℕ) (a : List ℕ) (i : ℕ) → i < length a → mask_of x (drop i a) ≡ cond (nat_eq (get_or a i 0) x) 1 0 + 2 * mask_of x (drop (i + 1) a)

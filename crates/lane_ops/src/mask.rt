@@ -5,14 +5,35 @@ ghost use Rattle.lane_ops.specs.Mask.{mask_of};
 
 use std::simd::prelude::*;
 
+/// Which of 16 lanes are equal to a word. One mask of 64 lanes at once would be compiled to twice
+/// as much work.
+fn mask_sixteen(a: &[u64], x: u64, at: usize) -> u64
+    requires { at + 16 ≤ length a.now }
+    ensures { result ≡ mask_of x (chunk at 16 a.now) }
+{
+    u64x16::from_slice(&a[at..])
+        .simd_eq(u64x16::splat(x))
+        .to_bitmask()
+}
+
+/// Which of 32 lanes are equal to a word.
+fn mask_half(a: &[u64], x: u64, at: usize) -> u64
+    requires { at + 32 ≤ length a.now }
+    ensures { result ≡ mask_of x (chunk at 32 a.now) }
+{
+    let low = mask_sixteen(a, x, at);
+    let high = mask_sixteen(a, x, at + 16);
+    low + high * 0x1_0000
+}
+
 /// Which of 64 lanes are equal to a word.
 fn mask_block(a: &[u64], x: u64, at: usize) -> u64
     requires { at + 64 ≤ length a.now }
     ensures { result ≡ mask_of x (chunk at 64 a.now) }
 {
-    u64x64::from_slice(&a[at..])
-        .simd_eq(u64x64::splat(x))
-        .to_bitmask()
+    let low = mask_half(a, x, at);
+    let high = mask_half(a, x, at + 32);
+    low + high * 0x1_0000_0000
 }
 
 /// Which of at most 64 lanes are equal to a word, from the last to the first.

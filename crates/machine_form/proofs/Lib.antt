@@ -15,3 +15,4 @@ pub mod StraightShapes
 pub mod Apart
 pub mod ChangeLaw
 pub mod LightChanges
+pub mod HeldSteps

@@ -11,3 +11,4 @@ pub mod Machine
 pub mod SoundState
 pub mod StepLaw
 pub mod EqualChanges
+pub mod Held

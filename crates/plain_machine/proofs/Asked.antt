@@ -1,5 +1,5 @@
 -- How often a call of a port asks it.
-use Rattle.std.proofs.Common.{◌≡◌, ◌≢◌, ℕ, ◌+◌, ◌<◌, ◌≤◌, Bool, true, false, cond, List, [], ◌∷◌, length, map, get_or, Option, Some, None, Result, Ok, Err, slice_get, OnOk, arith, sym, ◌∙◌, ap, refl}
+use Rattle.std.proofs.Common.{◌≡◌, ◌≢◌, ℕ, ◌+◌, ◌<◌, Bool, true, false, cond, List, length, map, get_or, Option, Some, arith, sym, ◌∙◌, ap, refl}
 use Rattle.std.specs.Prelude.{◌==◌, ◌&&◌, is_some}
 use Rattle.std.proofs.Math.ListN.{set}
 use Rattle.std.proofs.lemmas.List.{length-map, get_or-set_other}
@@ -8,19 +8,14 @@ use Rattle.std.proofs.lemmas.Bool.Decides.{nat_tests}
 use Rattle.std.proofs.lemmas.Option.{slice_get_within}
 use Rattle.code_form.specs.declared.instr.Operand.{Operand}
 use Rattle.code_form.specs.declared.instr.Callee.TheVariants.{Port}
-use Rattle.code_form.specs.declared.instr.Instr.{Instr}
 use Rattle.code_form.specs.declared.instr.Instr.TheVariants.{Call}
 use Rattle.code_form.specs.declared.sign.PortSign.{PortSign}
 use Rattle.code_form.specs.declared.code.Code.{Code}
 use Rattle.machine_form.specs.State.{State}
 use Rattle.machine_form.specs.Straight.{values_of}
-use Rattle.machine_form.specs.Machine.{is_port, toll_of}
+use Rattle.machine_form.specs.Machine.{toll_of}
 use Rattle.ports.specs.Asks.{AskedBy}
 use Rattle.plain_machine.specs.Operands.{CanAsk}
-
-pub whatever : {A E : Type 0} (r : Result A E) (P : Type 0) → P → OnOk r P
-whatever (Ok x) P h = h
-whatever (Err e) P h = tt
 
 is : (q p : ℕ) → (q == p) ≡ true → q ≡ p
 is q p e = grind (arith, nat_tests)

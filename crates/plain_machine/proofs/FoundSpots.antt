@@ -1,5 +1,5 @@
 -- The table of spots says for each place in which function and in which block it lies.
-use Rattle.std.proofs.Common.{◌≡◌, ℕ, zero, suc, ◌+◌, ◌-◌, ◌<◌, ◌≤◌, Bool, true, false, cond, List, [], ◌∷◌, ◌++◌, length, replicate, get_or, Option, Some, None, slice_get, arith, sym, ◌∙◌, ap, refl, subst, length-append}
+use Rattle.std.proofs.Common.{◌≡◌, ℕ, zero, suc, ◌+◌, ◌-◌, ◌<◌, ◌≤◌, Bool, true, false, cond, List, [], ◌∷◌, ◌++◌, length, replicate, get_or, Some, slice_get, arith, sym, ◌∙◌, ap, refl, subst, length-append}
 use Rattle.std.specs.Prelude.{flat_map, nat_lt, ◌||◌}
 use Rattle.std.specs.Option.{option_map}
 use Rattle.std.proofs.lemmas.List.{length-replicate}

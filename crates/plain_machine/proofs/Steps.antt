@@ -48,7 +48,7 @@ use Rattle.machine_form.proofs.SoundEdges.{branch_target, case_target}
 use Rattle.machine_form.proofs.Apart.{params_fit, length-types}
 use Rattle.machine_form.proofs.Kept.{states_stay}
 use Rattle.ports.specs.Words.{AreWords}
-use Rattle.plain_machine.specs.Operands.{HoldsWord, HasMemory, IsSmallAlignment, CanGo, CanAsk, CanStep, CanChange, is_port_call}
+use Rattle.plain_machine.specs.Operands.{HoldsWord, HasMemory, IsSmallAlignment, CanGo, CanStep, CanChange, is_port_call}
 use Rattle.plain_machine.specs.Plain.{IsQuiet, CanApply}
 use Rattle.plain_machine.specs.Running.{IsRunning}
 

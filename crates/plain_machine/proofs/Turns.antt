@@ -1,5 +1,5 @@
 -- One more change of a trace: what is left of it, its last state, its length and its tolls. And the tolls of several variants of one place.
-use Rattle.std.proofs.Common.{◌≡◌, ℕ, suc, List, [], subst, ◌<◌, ◌+◌, ◌≤◌, false, true, ◌∷◌, length, arith, sym, ◌∙◌, ap}
+use Rattle.std.proofs.Common.{◌≡◌, ℕ, suc, List, [], subst, ◌+◌, ◌≤◌, false, true, ◌∷◌, length, arith, sym, ◌∙◌, ap}
 use Rattle.std.specs.Prelude.{sum_by, take}
 use Rattle.std.proofs.lemmas.List.{take_all}
 use Rattle.std.proofs.lemmas.List.Sums.{sum_by-cons}

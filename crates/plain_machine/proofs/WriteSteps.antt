@@ -1,5 +1,5 @@
 -- Edges: the writes of some `phi` before those of the rest, the change of an edge, and the block of a `switch`.
-use Rattle.std.proofs.Common.{◌≡◌, ℕ, ◌+◌, ◌-◌, ◌<◌, Bool, true, false, cond, List, [], ◌∷◌, ◌++◌, length, take, drop, get_or, Option, Some, None, arith, sym, ◌∙◌, ap}
+use Rattle.std.proofs.Common.{◌≡◌, ℕ, ◌+◌, ◌-◌, Bool, true, false, cond, List, [], ◌∷◌, ◌++◌, take, drop, Option, Some, None, arith, ◌∙◌, ap}
 use Rattle.std.specs.Prelude.{◌==◌, All, unwrap_or}
 use Rattle.std.proofs.lemmas.List.Elements.{All-head, All-tail}
 use Rattle.code_form.specs.declared.instr.Instr.{Instr}

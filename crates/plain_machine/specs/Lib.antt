@@ -4,3 +4,4 @@ pub mod Operands
 pub mod Plain
 pub mod Running
 pub mod Tolls
+pub mod Filled

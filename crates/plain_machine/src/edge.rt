@@ -1,19 +1,19 @@
 //! Branches, and the `phi` that are read on an edge.
-ghost use Rattle.std.specs.Prelude.{◌≡◌, ◌<◌, ◌≤◌, ◌+◌, ◌^◌, length, All, IfOk, if◌then◌else◌, ◌==◌};
+ghost use Rattle.std.specs.Prelude.{◌≡◌, ◌<◌, ◌≤◌, ◌+◌, ◌^◌, length, All, IfOk, OnOk, if◌then◌else◌, ◌==◌};
 ghost use Rattle.machine_form.specs.After as after;
 ghost use Rattle.machine_form.specs.After.{phis_in};
 ghost use Rattle.machine_form.specs.Edge as spec;
 ghost use Rattle.machine_form.specs.Edge.{entry_of, value_of_entry, jump_change, case_of};
 ghost use Rattle.machine_form.specs.Straight.{value_of, with_value};
+ghost use Rattle.plain_machine.specs.Filled.{if_all};
 ghost use Rattle.plain_machine.specs.Operands.{CanGo, CanGoFrom};
 
 use crate::program::Program;
-use crate::step::traps;
+use crate::step::{quiet, traps};
 use am_base::{OutOfMemory, Trap};
-use change_set::{ByteWrites, Change, Control, RegisterWrites};
+use change_set::{Change, Control, RegisterWrites};
 use code_form::{Instr, Operand};
 use flat_state::Flat;
-use std::alloc::Global;
 
 /// What a `phi` reads where the run comes from a block.
 fn entry(entries: &[(u32, Operand)], from: usize) -> Option<Operand>
@@ -37,37 +37,38 @@ fn entry_word(s: &Flat, entries: &[(u32, Operand)], from: usize) -> Option<u64>
     }
 }
 
-/// The writes of the `phi` at the front of some instructions, all read before any is written, or nothing where one of them isn't set.
+/// Puts the writes of the `phi` at the front of some instructions, all read before any is written,
+/// into `writes`, whatever stood there. It answers whether all that they read is set.
 fn phi_writes(
-    alloc: Global,
     s: &Flat,
     from: usize,
     instrs: &[Instr],
     results: &[Option<u32>],
-) -> Result<Option<RegisterWrites>, OutOfMemory>
+    writes: &mut RegisterWrites,
+) -> Result<bool, OutOfMemory>
     requires { length results.now ≡ length instrs.now }
-    ensures { IfOk result (λ ws. ws ≡ spec.phi_writes s.now.state from instrs.now results.now) }
+    ensures { IfOk result (λ all. if_all all writes.new ≡ spec.phi_writes s.now.state from instrs.now results.now) }
 {
-    let mut writes = RegisterWrites::new(alloc);
+    writes.clear();
     for (i, instr) in instrs.iter().enumerate() {
         let Instr::Phi(entries) = instr else {
-            return Ok(Some(writes));
+            return Ok(true);
         };
         let Some(r) = results[i] else {
-            return Ok(Some(writes));
+            return Ok(true);
         };
         let Some(word) = entry_word(s, entries.as_slice(), from) else {
-            return Ok(None);
+            return Ok(false);
         };
         writes.push(r, word)?;
     }
-    Ok(Some(writes))
+    Ok(true)
 }
 
 /// The run goes to a block of its function.
-pub fn jump(alloc: Global, program: &Program, s: &Flat, b: u32) -> Result<Change, OutOfMemory>
+pub fn jump(program: &Program, s: &Flat, b: u32, out: &mut Change) -> Result<(), OutOfMemory>
     requires { CanGo program.now s.now.state b }
-    ensures { IfOk result (λ c. c ≡ jump_change program.now s.now.state b) }
+    ensures { OnOk result (out.new ≡ jump_change program.now s.now.state b) }
 {
     let code = program.code();
     let place = s.place();
@@ -77,39 +78,35 @@ pub fn jump(alloc: Global, program: &Program, s: &Flat, b: u32) -> Result<Change
     let from = program.block_index(place);
     let instrs = &code.instrs.as_slice()[first..end];
     let results = &code.results.as_slice()[first..end];
-    let Some(writes) = phi_writes(alloc, s, from, instrs, results)? else {
-        return Ok(traps(alloc, s, Trap::UnsetRegister));
-    };
-    Ok(Change {
-        writes,
-        bytes: ByteWrites::new(alloc),
-        top: s.top(),
-        put: None,
-        took: false,
-        control: Control::Jump(b),
-    })
+    if !phi_writes(s, from, instrs, results, &mut out.writes)? {
+        traps(s, Trap::UnsetRegister, out);
+        return Ok(());
+    }
+    quiet(s.top(), Control::Jump(b), out);
+    Ok(())
 }
 
 /// `br` with a condition: the block where it is 1, and the block where it is 0.
 pub fn branch(
-    alloc: Global,
     program: &Program,
     s: &Flat,
     c: Operand,
     b: u32,
     d: u32,
-) -> Result<Change, OutOfMemory>
+    out: &mut Change,
+) -> Result<(), OutOfMemory>
     requires one { CanGo program.now s.now.state b }
     requires zero { CanGo program.now s.now.state d }
-    ensures { IfOk result (λ change. change ≡ with_value s.now.state (value_of s.now.state c) (λ k. jump_change program.now s.now.state (if (k == 1) then b else d))) }
+    ensures { OnOk result (out.new ≡ with_value s.now.state (value_of s.now.state c) (λ k. jump_change program.now s.now.state (if (k == 1) then b else d))) }
 {
     let Some(k) = s.value(c) else {
-        return Ok(traps(alloc, s, Trap::UnsetRegister));
+        traps(s, Trap::UnsetRegister, out);
+        return Ok(());
     };
     if k == 1 {
-        jump(alloc, program, s, b)
+        jump(program, s, b, out)
     } else {
-        jump(alloc, program, s, d)
+        jump(program, s, d, out)
     }
 }
 
@@ -127,21 +124,22 @@ fn case_block(cases: &[(u64, u32)], word: u64, other: u32) -> u32
 
 /// `switch`: the value, the default block, and the cases with their blocks.
 pub fn switch(
-    alloc: Global,
     program: &Program,
     s: &Flat,
     a: Operand,
     other: u32,
     cases: &[(u64, u32)],
-) -> Result<Change, OutOfMemory>
+    out: &mut Change,
+) -> Result<(), OutOfMemory>
     requires other { CanGo program.now s.now.state other }
     requires cases { All (λ c. CanGo program.now s.now.state c.1) cases.now }
-    ensures { IfOk result (λ change. change ≡ with_value s.now.state (value_of s.now.state a) (λ x. jump_change program.now s.now.state (case_of cases.now x other))) }
+    ensures { OnOk result (out.new ≡ with_value s.now.state (value_of s.now.state a) (λ x. jump_change program.now s.now.state (case_of cases.now x other))) }
 {
     let Some(x) = s.value(a) else {
-        return Ok(traps(alloc, s, Trap::UnsetRegister));
+        traps(s, Trap::UnsetRegister, out);
+        return Ok(());
     };
-    jump(alloc, program, s, case_block(cases, x, other))
+    jump(program, s, case_block(cases, x, other), out)
 }
 
 /// How many `phi` stand at the front of some instructions.

@@ -1,5 +1,5 @@
 //! `getelementptr`.
-ghost use Rattle.std.specs.Prelude.{◌≡◌, ◌<◌, ◌^◌, All, IfOk, map};
+ghost use Rattle.std.specs.Prelude.{◌≡◌, ◌<◌, ◌^◌, All, map};
 ghost use Rattle.std.specs.Option.{option_map};
 ghost use Rattle.am_base.specs.Word.{word_of};
 ghost use Rattle.am_base.specs.declared.word.Width.TheVariants.{W64};
@@ -8,11 +8,10 @@ ghost use Rattle.machine_form.specs.Next.{get_change};
 ghost use Rattle.plain_machine.specs.Operands.{HoldsWord};
 
 use crate::step::{gives, traps};
-use am_base::{Cast, OutOfMemory, Trap, Width, convert};
+use am_base::{Cast, Trap, Width, convert};
 use change_set::Change;
 use code_form::Operand;
 use flat_state::Flat;
-use std::alloc::Global;
 
 /// The sum of the indices, each signed in its width and scaled, modulo 2^64, or nothing where one of them isn't set.
 fn scaled(s: &Flat, indices: &[(u64, Width, Operand)]) -> Option<u64>
@@ -32,22 +31,22 @@ fn scaled(s: &Flat, indices: &[(u64, Width, Operand)]) -> Option<u64>
 
 /// `getelementptr`: the base, the literal part of the offset, and the other indices with their scales in bytes and their widths.
 pub fn get(
-    alloc: Global,
     s: &Flat,
     r: Option<u32>,
     a: Operand,
     literal: u64,
     indices: &[(u64, Width, Operand)],
-) -> Result<Change, OutOfMemory>
+    out: &mut Change,
+)
     requires { All (λ i. HoldsWord s.now.state i.1 i.2) indices.now }
-    ensures { IfOk result (λ c. c ≡ get_change s.now.state r a literal indices.now) }
+    ensures { out.new ≡ get_change s.now.state r a literal indices.now }
 {
     let Some(base) = s.value(a) else {
-        return Ok(traps(alloc, s, Trap::UnsetRegister));
+        return traps(s, Trap::UnsetRegister, out);
     };
     let Some(offset) = scaled(s, indices) else {
-        return Ok(traps(alloc, s, Trap::UnsetRegister));
+        return traps(s, Trap::UnsetRegister, out);
     };
     let word = base.wrapping_add(literal).wrapping_add(offset);
-    gives(alloc, s, r, word)
+    gives(s, r, word, out)
 }

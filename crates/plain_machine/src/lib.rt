@@ -16,5 +16,5 @@ mod turn;
 
 pub use program::Program;
 pub use run::{Alone, run_alone};
-pub use tries::{try_variant, try_variants};
+pub use tries::{fill_variant, try_variant, try_variants};
 pub use turn::apply;

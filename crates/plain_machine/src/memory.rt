@@ -1,16 +1,15 @@
 //! `alloca`, `load` and `store`.
-ghost use Rattle.std.specs.Prelude.{◌≡◌, ◌<◌, ◌≤◌, ◌+◌, ◌*◌, ◌^◌, length, IfOk};
+ghost use Rattle.std.specs.Prelude.{◌≡◌, ◌<◌, ◌≤◌, ◌+◌, ◌*◌, ◌^◌, length, OnOk};
 ghost use Rattle.code_form.specs.Layout as layout;
 ghost use Rattle.machine_form.specs.Straight as spec;
 ghost use Rattle.machine_form.specs.Straight.{number_of, bytes_from, value_of, with_value, load_change, store_change, alloca_change};
 ghost use Rattle.plain_machine.specs.Operands.{HasMemory, IsSmallAlignment};
 
-use crate::step::{gives, traps, write};
+use crate::step::{gives, traps};
 use am_base::{Cast, FIRST_ADDRESS, MEMORY_BYTES, OutOfMemory, Trap, Width, convert};
-use change_set::{ByteWrites, Change, Control, RegisterWrites};
+use change_set::{ByteWrites, Change};
 use code_form::{Code, Operand};
 use flat_state::Flat;
-use std::alloc::Global;
 
 /// How many bytes an integer of a width takes.
 fn bytes_of(w: Width) -> usize
@@ -47,19 +46,20 @@ fn is_in_range(s: &Flat, address: u64, len: usize) -> bool
     address >= u64::from(FIRST_ADDRESS) && address <= top && address + len as u64 <= top
 }
 
-/// The bytes of a number that differ from what stands in memory from an address on.
+/// Puts the bytes of a number that differ from what stands in memory from an address on into
+/// `writes`, whatever stood there.
 fn differing(
-    alloc: Global,
     bytes: &[u8],
     at: usize,
     len: usize,
     word: u64,
-) -> Result<ByteWrites, OutOfMemory>
+    writes: &mut ByteWrites,
+) -> Result<(), OutOfMemory>
     requires inside { at + len ≤ length bytes.now }
     requires few { length bytes.now ≤ MEMORY_BYTES }
-    ensures { IfOk result (λ writes. writes ≡ spec.differing bytes.now at (bytes_from len word)) }
+    ensures { OnOk result (writes.new ≡ spec.differing bytes.now at (bytes_from len word)) }
 {
-    let mut writes = ByteWrites::new(alloc);
+    writes.clear();
     let mut rest = word;
     for i in 0..len {
         let byte = (rest % 256) as u8;
@@ -68,143 +68,109 @@ fn differing(
         }
         rest /= 256;
     }
-    Ok(writes)
+    Ok(())
 }
 
 /// A store of a word at an address.
 fn store_at(
-    alloc: Global,
     code: &Code,
     s: &Flat,
     w: Width,
     word: u64,
     address: u64,
-) -> Result<Change, OutOfMemory>
+    out: &mut Change,
+) -> Result<(), OutOfMemory>
     requires { HasMemory s.now.state }
-    ensures { IfOk result (λ c. c ≡ store_change code.now s.now.state w word address) }
+    ensures { OnOk result (out.new ≡ store_change code.now s.now.state w word address) }
 {
     let len = bytes_of(w);
     if !is_in_range(s, address, len) {
-        return Ok(traps(alloc, s, Trap::AddressRange));
+        traps(s, Trap::AddressRange, out);
+        return Ok(());
     }
     if address < u64::from(code.const_end) {
-        return Ok(traps(alloc, s, Trap::ConstantWrite));
+        traps(s, Trap::ConstantWrite, out);
+        return Ok(());
     }
-    let bytes = differing(alloc, s.kept(), address as usize, len, word)?;
-    Ok(Change {
-        writes: RegisterWrites::new(alloc),
-        bytes,
-        top: s.top(),
-        put: None,
-        took: false,
-        control: Control::Next,
-    })
+    gives(s, None, 0, out);
+    differing(s.kept(), address as usize, len, word, &mut out.bytes)
 }
 
 /// `store`: the value and the address.
 pub fn store(
-    alloc: Global,
     code: &Code,
     s: &Flat,
     w: Width,
     a: Operand,
     b: Operand,
-) -> Result<Change, OutOfMemory>
+    out: &mut Change,
+) -> Result<(), OutOfMemory>
     requires { HasMemory s.now.state }
-    ensures { IfOk result (λ c. c ≡ with_value s.now.state (value_of s.now.state a) (λ x. with_value s.now.state (value_of s.now.state b) (λ address. store_change code.now s.now.state w x address))) }
+    ensures { OnOk result (out.new ≡ with_value s.now.state (value_of s.now.state a) (λ x. with_value s.now.state (value_of s.now.state b) (λ address. store_change code.now s.now.state w x address))) }
 {
     let Some(x) = s.value(a) else {
-        return Ok(traps(alloc, s, Trap::UnsetRegister));
+        traps(s, Trap::UnsetRegister, out);
+        return Ok(());
     };
     let Some(address) = s.value(b) else {
-        return Ok(traps(alloc, s, Trap::UnsetRegister));
+        traps(s, Trap::UnsetRegister, out);
+        return Ok(());
     };
-    store_at(alloc, code, s, w, x, address)
+    store_at(code, s, w, x, address, out)
 }
 
 /// A load from an address.
-fn load_at(
-    alloc: Global,
-    s: &Flat,
-    r: Option<u32>,
-    w: Width,
-    address: u64,
-) -> Result<Change, OutOfMemory>
+fn load_at(s: &Flat, r: Option<u32>, w: Width, address: u64, out: &mut Change)
     requires { HasMemory s.now.state }
-    ensures { IfOk result (λ c. c ≡ load_change s.now.state r w address) }
+    ensures { out.new ≡ load_change s.now.state r w address }
 {
     let len = bytes_of(w);
     if !is_in_range(s, address, len) {
-        return Ok(traps(alloc, s, Trap::AddressRange));
+        return traps(s, Trap::AddressRange, out);
     }
     let at = address as usize;
     let word = number(&s.kept()[at..at + len]);
-    gives(alloc, s, r, convert(Cast::Trunc, Width::W64, w, word))
+    gives(s, r, convert(Cast::Trunc, Width::W64, w, word), out);
 }
 
 /// `load`: the address.
-pub fn load(
-    alloc: Global,
-    s: &Flat,
-    r: Option<u32>,
-    w: Width,
-    a: Operand,
-) -> Result<Change, OutOfMemory>
+pub fn load(s: &Flat, r: Option<u32>, w: Width, a: Operand, out: &mut Change)
     requires { HasMemory s.now.state }
-    ensures { IfOk result (λ c. c ≡ with_value s.now.state (value_of s.now.state a) (λ address. load_change s.now.state r w address)) }
+    ensures { out.new ≡ with_value s.now.state (value_of s.now.state a) (λ address. load_change s.now.state r w address) }
 {
     let Some(address) = s.value(a) else {
-        return Ok(traps(alloc, s, Trap::UnsetRegister));
+        return traps(s, Trap::UnsetRegister, out);
     };
-    load_at(alloc, s, r, w, address)
+    load_at(s, r, w, address, out);
 }
 
 /// That many values of a size on the stack.
-fn alloca_count(
-    alloc: Global,
-    s: &Flat,
-    r: Option<u32>,
-    size: u64,
-    align: u64,
-    count: u64,
-) -> Result<Change, OutOfMemory>
+fn alloca_count(s: &Flat, r: Option<u32>, size: u64, align: u64, count: u64, out: &mut Change)
     requires memory { HasMemory s.now.state }
     requires align { IsSmallAlignment align }
-    ensures { IfOk result (λ c. c ≡ alloca_change s.now.state r size align count) }
+    ensures { out.new ≡ alloca_change s.now.state r size align count }
 {
     let top = u64::from(s.top());
     let address = top + (align - top % align) % align;
     if let Some(bytes) = size.checked_mul(count) {
         let most = u64::from(MEMORY_BYTES);
         if bytes <= most && address + bytes <= most {
-            return Ok(Change {
-                writes: write(alloc, r, address)?,
-                bytes: ByteWrites::new(alloc),
-                top: (address + bytes) as u32,
-                put: None,
-                took: false,
-                control: Control::Next,
-            });
+            gives(s, r, address, out);
+            out.top = (address + bytes) as u32;
+            return;
         }
     }
-    Ok(traps(alloc, s, Trap::MemoryFull))
+    traps(s, Trap::MemoryFull, out);
 }
 
 /// `alloca`: the size and the alignment in bytes, and the count, which is unsigned.
-pub fn alloca(
-    alloc: Global,
-    s: &Flat,
-    r: Option<u32>,
-    size: u64,
-    align: u64,
-    count: Operand,
-) -> Result<Change, OutOfMemory>
+pub fn alloca(s: &Flat, r: Option<u32>, size: u64, align: u64, count: Operand, out: &mut Change)
     requires memory { HasMemory s.now.state }
     requires align { IsSmallAlignment align }
-    ensures { IfOk result (λ c. c ≡ with_value s.now.state (value_of s.now.state count) (λ n. alloca_change s.now.state r size align n)) }
+    ensures { out.new ≡ with_value s.now.state (value_of s.now.state count) (λ n. alloca_change s.now.state r size align n) }
 {
     let Some(n) = s.value(count) else {
-        return Ok(traps(alloc, s, Trap::UnsetRegister));
+        return traps(s, Trap::UnsetRegister, out);
     };
-    alloca_count(alloc, s, r, size, align, n)
+    alloca_count(s, r, size, align, n, out);
 }

@@ -48,21 +48,15 @@ fn port_width(code: &Code, p: u32) -> Option<Width>
 }
 
 /// The change by what a port answered, whose result has this width.
-fn answered(
-    alloc: Global,
-    s: &Flat,
-    r: Option<u32>,
-    w: Option<Width>,
-    answer: Option<u64>,
-) -> Result<Change, OutOfMemory>
-    ensures { IfOk result (λ c. c ≡ answer_change s.now.state r w answer) }
+fn answered(s: &Flat, r: Option<u32>, w: Option<Width>, answer: Option<u64>, out: &mut Change)
+    ensures { out.new ≡ answer_change s.now.state r w answer }
 {
     let Some(word) = answer else {
-        return Ok(traps(alloc, s, Trap::PortRefused));
+        return traps(s, Trap::PortRefused, out);
     };
     match w {
-        None => gives(alloc, s, None, 0),
-        Some(w) => gives(alloc, s, r, convert(Cast::Trunc, Width::W64, w, word)),
+        None => gives(s, None, 0, out),
+        Some(w) => gives(s, r, convert(Cast::Trunc, Width::W64, w, word), out),
     }
 }
 
@@ -75,22 +69,25 @@ fn ask(
     p: u32,
     args: &[Operand],
     ports: &mut [Box<dyn Port>],
-) -> Result<Change, OutOfMemory>
+    out: &mut Change,
+) -> Result<(), OutOfMemory>
     requires can { CanAsk code.now s.now.state p args.now }
     requires signs { map (λ q. sign q) ports.old ≡ code.now.signs }
     requires few { asked_in (map (λ q. asked q) ports.old) p < 2 ^ 63 }
     ensures change { let answers = answers_in (map (λ q. answers q) ports.old) in
-        IfOk result (λ c. c ≡ with_value s.now.state (values_of s.now.state args.now) (λ xs. call_change code.now answers s.now.state r (AtPort p) xs)) }
+        OnOk result (out.new ≡ with_value s.now.state (values_of s.now.state args.now) (λ xs. call_change code.now answers s.now.state r (AtPort p) xs)) }
     ensures signs { map (λ q. sign q) ports.new ≡ map (λ q. sign q) ports.old }
     ensures answers { map (λ q. answers q) ports.new ≡ map (λ q. answers q) ports.old }
     ensures asks { OnOk result (AskedBy (map (λ q. asked q) ports.old) (map (λ q. asked q) ports.new) (λ q. toll_of q s.now.state (CallOf (AtPort p) args.now))) }
     ensures asks_at_most { AskedAtMostBy (map (λ q. asked q) ports.old) (map (λ q. asked q) ports.new) (λ q. toll_of q s.now.state (CallOf (AtPort p) args.now)) }
 {
     let Some(words) = argument_words(alloc, s, args)? else {
-        return Ok(traps(alloc, s, Trap::UnsetRegister));
+        traps(s, Trap::UnsetRegister, out);
+        return Ok(());
     };
     let answer = ask_port(ports, p as usize, words.as_slice());
-    answered(alloc, s, r, port_width(code, p), answer)
+    answered(s, r, port_width(code, p), answer, out);
+    Ok(())
 }
 
 /// The port that an instruction calls, by its number, with the arguments, or nothing where it calls none.
@@ -103,7 +100,8 @@ fn port_call(i: &Instr) -> Option<(u32, &[Operand])>
     }
 }
 
-/// The change that an instruction makes. `r` is the register of its place.
+/// Makes `out` the change that an instruction makes, whatever stood there. `r` is the register of its
+/// place.
 pub fn change(
     alloc: Global,
     program: &Program,
@@ -111,18 +109,19 @@ pub fn change(
     r: Option<u32>,
     i: &Instr,
     ports: &mut [Box<dyn Port>],
-) -> Result<Change, OutOfMemory>
+    out: &mut Change,
+) -> Result<(), OutOfMemory>
     requires can { CanChange program.now s.now.state i.now }
     requires signs { map (λ q. sign q) ports.old ≡ program.now.signs }
     requires few { (p : ℕ) → asked_in (map (λ q. asked q) ports.old) p < 2 ^ 63 }
-    ensures change { IfOk result (λ c. c ≡ next_of program.now (answers_in (map (λ q. answers q) ports.old)) s.now.state r i.now) }
+    ensures change { OnOk result (out.new ≡ next_of program.now (answers_in (map (λ q. answers q) ports.old)) s.now.state r i.now) }
     ensures signs { map (λ q. sign q) ports.new ≡ map (λ q. sign q) ports.old }
     ensures answers { map (λ q. answers q) ports.new ≡ map (λ q. answers q) ports.old }
     ensures asks { OnOk result (AskedBy (map (λ q. asked q) ports.old) (map (λ q. asked q) ports.new) (λ q. toll_of q s.now.state i.now)) }
     ensures asks_at_most { AskedAtMostBy (map (λ q. asked q) ports.old) (map (λ q. asked q) ports.new) (λ q. toll_of q s.now.state i.now) }
 {
     match port_call(i) {
-        Some((p, args)) => ask(alloc, program.code(), s, r, p, args, ports),
-        None => step(alloc, program, s, r, i),
+        Some((p, args)) => ask(alloc, program.code(), s, r, p, args, ports, out),
+        None => step(program, s, r, i, out),
     }
 }

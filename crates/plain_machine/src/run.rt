@@ -12,7 +12,7 @@ ghost use Rattle.plain_machine.specs.Running.{IsRunning};
 ghost use Rattle.plain_machine.specs.Tolls.{tolls_from, tolls_of};
 
 use crate::program::Program;
-use crate::tries::try_variant;
+use crate::tries::fill_variant;
 use crate::turn::apply;
 use am_base::{OutOfMemory, Outcome};
 use change_set::Change;
@@ -30,7 +30,7 @@ pub struct Alone {
     pub length: u64,
 }
 
-/// The change that a mutant makes in a state.
+/// Makes `out`, whatever stood there, the change that a mutant makes in a state.
 fn next(
     alloc: Global,
     program: &Program,
@@ -38,14 +38,15 @@ fn next(
     m: u32,
     s: &Flat,
     ports: &mut [Box<dyn Port>],
-) -> Result<Change, OutOfMemory>
+    out: &mut Change,
+) -> Result<(), OutOfMemory>
     requires sound { IsSound program.now }
     requires table { FitsTable program.now variants.now }
     requires running { IsRunning program.now s.now.state }
     requires signs { map (λ q. sign q) ports.old ≡ program.now.signs }
     requires few { (p : ℕ) → asked_in (map (λ q. asked q) ports.old) p < 2 ^ 63 }
     ensures change { let v = variant_of variants.now m s.now.state.running.place in
-        IfOk result (λ c. c ≡ next_by program.now variants.now (answers_in (map (λ q. answers q) ports.old)) v s.now.state) }
+        OnOk result (out.new ≡ next_by program.now variants.now (answers_in (map (λ q. answers q) ports.old)) v s.now.state) }
     ensures signs { map (λ q. sign q) ports.new ≡ map (λ q. sign q) ports.old }
     ensures answers { map (λ q. answers q) ports.new ≡ map (λ q. answers q) ports.old }
     ensures asks { let v = variant_of variants.now m s.now.state.running.place in
@@ -56,7 +57,7 @@ fn next(
         (λ p. toll_of p s.now.state (instr_of program.now variants.now s.now.state.running.place v)) }
 {
     let v = variants.variant(m, Place(s.place()));
-    try_variant(alloc, program, variants, v, s, ports)
+    fill_variant(alloc, program, variants, v, s, ports, out)
 }
 
 /// Makes the changes of a mutant from a state on, to its end or to the end of the budget, and answers how many there were.
@@ -86,11 +87,13 @@ fn run(
         AskedAtMostBy (map (λ q. asked q) ports.old) (map (λ q. asked q) ports.new) (λ p. tolls_from T m p s.old.state (changes_from T m case.now.budget s.old.state)) }
 {
     let budget = case.budget;
+    // one change, filled anew in each step
+    let mut change = Change::new(alloc);
     for i in 0..budget {
         if s.has_ended() {
             return Ok(i);
         }
-        let change = next(alloc, program, variants, m, s, ports)?;
+        next(alloc, program, variants, m, s, ports, &mut change)?;
         s.ready(program.code(), &change)?;
         apply(program, s, &change);
     }

@@ -16,6 +16,38 @@ use flat_state::{Flat, result_register};
 use ports::Port;
 use std::alloc::Global;
 
+/// Makes `out`, whatever stood there, the change that a variant of the place of a state makes in it.
+/// It is refused only for want of memory, and then `out` is some change.
+pub fn fill_variant(
+    alloc: Global,
+    program: &Program,
+    table: &Variants,
+    v: u32,
+    s: &Flat,
+    ports: &mut [Box<dyn Port>],
+    out: &mut Change,
+) -> Result<(), OutOfMemory>
+    requires sound { IsSound program.now }
+    requires table { FitsTable program.now table.now }
+    requires running { IsRunning program.now s.now.state }
+    requires given { v ≤ length (replacements_at table.now s.now.state.running.place) }
+    requires signs { map (λ q. sign q) ports.old ≡ program.now.signs }
+    requires few { (p : ℕ) → asked_in (map (λ q. asked q) ports.old) p < 2 ^ 63 }
+    ensures change { OnOk result (out.new ≡ next_by program.now table.now (answers_in (map (λ q. answers q) ports.old)) v s.now.state) }
+    ensures signs { map (λ q. sign q) ports.new ≡ map (λ q. sign q) ports.old }
+    ensures answers { map (λ q. answers q) ports.new ≡ map (λ q. answers q) ports.old }
+    ensures asks { OnOk result (AskedBy (map (λ q. asked q) ports.old) (map (λ q. asked q) ports.new)
+        (λ p. toll_of p s.now.state (instr_of program.now table.now s.now.state.running.place v))) }
+    ensures asks_at_most { AskedAtMostBy (map (λ q. asked q) ports.old) (map (λ q. asked q) ports.new)
+        (λ p. toll_of p s.now.state (instr_of program.now table.now s.now.state.running.place v)) }
+{
+    let code = program.code();
+    let place = s.place();
+    let r = result_register(code, place);
+    let i = table.instr(code, Place(place), v);
+    change(alloc, program, s, r, i, ports, out)
+}
+
 /// The change that a variant of the place of a state makes in it.
 pub fn try_variant(
     alloc: Global,
@@ -39,11 +71,9 @@ pub fn try_variant(
     ensures asks_at_most { AskedAtMostBy (map (λ q. asked q) ports.old) (map (λ q. asked q) ports.new)
         (λ p. toll_of p s.now.state (instr_of program.now table.now s.now.state.running.place v)) }
 {
-    let code = program.code();
-    let place = s.place();
-    let r = result_register(code, place);
-    let i = table.instr(code, Place(place), v);
-    change(alloc, program, s, r, i, ports)
+    let mut change = Change::new(alloc);
+    fill_variant(alloc, program, table, v, s, ports, &mut change)?;
+    Ok(change)
 }
 
 /// Puts into `out`, which is empty, the change that each of these variants of the place of a state
@@ -76,7 +106,8 @@ pub fn try_variants(
         (λ p. sum_by (λ v. toll_of p s.now.state (instr_of program.now table.now s.now.state.running.place v)) variants.now) }
 {
     for v in variants {
-        let change = try_variant(alloc, program, table, *v, s, ports)?;
+        let mut change = Change::new(alloc);
+        fill_variant(alloc, program, table, *v, s, ports, &mut change)?;
         out.push(change)?;
     }
     Ok(())

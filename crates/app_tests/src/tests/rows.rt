@@ -14,7 +14,7 @@ type Row = (
 );
 
 /// A sum that is compared with 10.
-const SUMS: &str = "define i32 @f(i32 %a, i32 %b) {
+pub const SUMS: &str = "define i32 @f(i32 %a, i32 %b) {
   %c = add i32 %a, %b
   %d = icmp sgt i32 %c, 10
   %e = select i1 %d, i32 1, i32 0
@@ -85,7 +85,7 @@ ret i64 %x
 ";
 
 /// As Clang wrote it.
-const MAX: &str = "; ModuleID = 'max.c'
+pub const MAX: &str = "; ModuleID = 'max.c'
 source_filename = \"max.c\"
 target datalayout = \"e-m:e-p270:32:32-p271:32:32-p272:64:64-i64:64-f80:128-n8:16:32:64-S128\"
 target triple = \"x86_64-pc-linux-gnu\"

@@ -1,21 +1,8 @@
-use Rattle.std.proofs.Common.{◌≡◌, ℕ, ◌<◌, ◌≤◌, Bool, true, false, get_or, List, length, arith, refl, sym, ap, ◌∙◌, below_more, Bor}
+use Rattle.std.proofs.Common.{◌≡◌, ℕ, ◌<◌, ◌≤◌, Bool, true, false, get_or, List, length, arith, sym, ◌∙◌, below_more}
 use Rattle.std.specs.List.{position_or_len}
-use Rattle.std.specs.Fn.{Shared, Called}
-use Rattle.std.specs.Iterator.Order.{ActsAsAtTwo}
-use Rattle.std.proofs.lemmas.Fn.{Called-at_two}
-use Rattle.std.proofs.lemmas.List.{get_or_default}
 use Rattle.std.proofs.lemmas.List.Sums.{position_or_len_is}
+use Rattle.change_classes.proofs.Told.{told, at_place}
 use Rattle.change_classes.proofs.first.first_number.Goals as goal
-
--- what a call tells of the test that the closure acts as
-told : {F A : Type 0} (g : Shared F (Bor A × (Bor A × Unit {0})) Bool) (f : F) (y z : Bor A) (r : Bool)
-    → (f' : F) × Called g f (y, (z, tt)) r f' → (equal : A → A → Bool) → ActsAsAtTwo g f equal → r ≡ equal y.now z.now
-told g f y z r (f', p) equal acts = (acts y.now z.now r f' (Called-at_two _ p refl)).1
-
--- what was told of an item, at its place
-at_place : {A : Type 0} (test : A → Bool) (items : List A) (i : ℕ) (item other : A) (r b : Bool)
-    → i < length items → other ≡ get_or items i other → r ≡ test other → r ≡ b → test (get_or items i item) ≡ b
-at_place test items i item other r b l at t e = ap test (get_or_default items i item other l ∙ sym at) ∙ sym t ∙ e
 
 first_at : {A : Type 0} (test : A → Bool) (items : List A) (number i : ℕ) (item : A) → number ≡ i → i ≤ length items
     → ((k : ℕ) → k < i → test (get_or items k item) ≡ false) → (i < length items → test (get_or items i item) ≡ true) → number ≡ position_or_len test items

@@ -2,12 +2,10 @@ use Rattle.std.proofs.Common.{◌≡◌, ◌+◌, [], ◌∷◌, ◌++◌, arith
 use Rattle.std.specs.Option.{option_to_list}
 use Rattle.std.specs.List.{All, IsDistinct}
 use Rattle.std.proofs.lemmas.List.Elements.{All-map}
-use Rattle.std.specs.List.Sorted.{IsPermutation}
-use Rattle.exec_core.specs.Plans.{planned_of, states_of, plans_of}
+use Rattle.exec_core.specs.Plans.{states_of, plans_of}
 use Rattle.exec_core.specs.Children.{AreReadying, IsPlanned, numbers_of, weights_of}
-use Rattle.exec_core.specs.declared.divide.Child.{Child}
 use Rattle.exec_core.specs.declared.plan.Plan.{Plan}
-use Rattle.exec_core.proofs.PrepareLemmas.{children_distinct, children_planned, prepared, plans_moved, weights_are}
+use Rattle.exec_core.proofs.PrepareLemmas.{children_distinct, children_planned, prepared, plans_moved, weights_are, own_child}
 use Rattle.traces.specs.View.{IsKnown}
 use Rattle.std.proofs.lemmas.List.Sorted.{IsPermutation-sym}
 use Rattle.std.proofs.lemmas.Map.Keys.{IsDistinct-IsPermutation}
@@ -31,81 +29,41 @@ release_children-requires-clause-distinct g c =
 pub ready_all-requires-clause-planned : goal.ready_all-requires-clause-planned
 ready_all-requires-clause-planned g c =
     let V = g.M.Machine.view in let e = c.in-Ok.ensures in let A = V.meanings c.args.machine.now in
-    let q : Child g.row.M-State.Denot g.row.M-Change.Denot = record {
-      state = c.args.own;
-      members = c.unwrap-last.result.members;
-      change =
-          c.unwrap-last.result.change;
-    } in
-    let split : c.args.plans.now.items ≡ c.pop.new.self.items ++ c.unwrap-last.result ∷ [] = c.pop.ensures.items
-    ∙ ap (λ r. c.pop.new.self.items ++ option_to_list r) c.unwrap-last.ensures in
-    let planned : IsPermutation (plans_of c.args.plans.now.items) (map planned_of (c.fork_plans.new.children.items ++ q ∷ [])) =
-    plans_moved c.pop.new.self.items c.unwrap-last.result c.args.plans.now.items c.fork_plans.new.children.items q split e.plans refl in
     let known : All (λ x. IsKnown A (V.stands c.args.machine.now c.args.own) x.1) (plans_of c.args.plans.now.items) =
     All-map (λ (x : List ℕ × g.row.M-Change.Denot). IsKnown A (V.stands c.args.machine.now c.args.own) x.1)
     (λ (x : Plan g.row.M-Change.Denot). (x.members, x.change)) c.args.plans.now.items c.requires.known in
     subst (All (IsPlanned V c.fork_plans.new.machine)) (sym c.put.ensures.items)
-    (children_planned V g.met.M.Machine.lawful c.args.machine.now c.fork_plans.new.machine c.args.own c.requires.out c.fork_plans.new.children.items e.forks
-    e.keeps q refl
-    c.requires.live (plans_of c.args.plans.now.items) known planned)
+    (children_planned g.met.M.Machine.lawful c.requires.out _ e.forks e.keeps (own_child c.args.own c.unwrap-last.result) refl c.requires.live known
+    (plans_moved _ _ c.args.own c.pop.ensures.items c.unwrap-last.ensures c.in-Ok.ensures.plans))
 
 pub ready_all-requires-clause-distinct : goal.ready_all-requires-clause-distinct
 ready_all-requires-clause-distinct g c =
-    let V = g.M.Machine.view in let e = c.in-Ok.ensures in
-    let q : Child g.row.M-State.Denot g.row.M-Change.Denot = record {
-      state = c.args.own;
-      members = c.unwrap-last.result.members;
-      change =
-          c.unwrap-last.result.change;
-    } in
-    subst (λ xs. IsDistinct Rattle.std.specs.Prelude.nat_eq (numbers_of V xs)) (sym c.put.ensures.items)
-    (children_distinct V g.met.M.Machine.lawful c.args.machine.now c.fork_plans.new.machine c.args.own c.requires.out c.fork_plans.new.children.items e.forks
-    e.keeps q refl)
+    let e = c.in-Ok.ensures in
+    subst (λ xs. IsDistinct Rattle.std.specs.Prelude.nat_eq (numbers_of g.M.Machine.view xs)) (sym c.put.ensures.items)
+    (children_distinct g.met.M.Machine.lawful c.requires.out _ e.forks e.keeps (own_child c.args.own c.unwrap-last.result) refl)
 
 pub ready_all-requires-clause-room_to_ready : goal.ready_all-requires-clause-room_to_ready
 ready_all-requires-clause-room_to_ready g c =
     let V = g.M.Machine.view in let e = c.in-Ok.ensures in let A = V.meanings c.args.machine.now in
-    let q : Child g.row.M-State.Denot g.row.M-Change.Denot = record {
-      state = c.args.own;
-      members = c.unwrap-last.result.members;
-      change =
-          c.unwrap-last.result.change;
-    } in
-    let split : c.args.plans.now.items ≡ c.pop.new.self.items ++ c.unwrap-last.result ∷ [] = c.pop.ensures.items
-    ∙ ap (λ r. c.pop.new.self.items ++ option_to_list r) c.unwrap-last.ensures in
-    let planned : IsPermutation (plans_of c.args.plans.now.items) (map planned_of (c.fork_plans.new.children.items ++ q ∷ [])) =
-    plans_moved c.pop.new.self.items c.unwrap-last.result c.args.plans.now.items c.fork_plans.new.children.items q split e.plans refl in
-    let w = weights_are A.weight (plans_of c.args.plans.now.items) (c.fork_plans.new.children.items ++ q ∷ []) planned in
-    let m = ap (λ B. weights_of B c.put.new.v.items) e.keeps.meanings ∙ ap (weights_of A) c.put.ensures.items ∙ w in
+    let m = ap (λ B. weights_of B c.put.new.v.items) e.keeps.meanings ∙ ap (weights_of A) c.put.ensures.items
+    ∙ weights_are A.weight _ (plans_moved _ _ c.args.own c.pop.ensures.items c.unwrap-last.ensures c.in-Ok.ensures.plans) in
     omega (arith, m, e.counts.readied, c.requires.room_to_ready)
 
 pub give_back-requires-clause-some : goal.give_back-requires-clause-some
 give_back-requires-clause-some g c =
-    let n = readying_length g.M.Machine.view c.fork_plans.new.machine c.ready_all.new.machine c.put.new.v.items c.ready_all.new.children.items
-    c.ready_all.new.readied.items c.in-Err-ready_all.ensures.children in
+    let n = readying_length g.M.Machine.view c.in-Err-ready_all.ensures.children in
     omega (arith, n, c.put.ensures.len, c.put.new.v.ok.0, c.ready_all.new.children.ok.0, c.ready_all.new.readied.ok.0)
 
 pub give_back-requires-clause-out : goal.give_back-requires-clause-out
-give_back-requires-clause-out g c = readying_out g.M.Machine.view c.fork_plans.new.machine c.ready_all.new.machine c.put.new.v.items
-    c.ready_all.new.children.items c.ready_all.new.readied.items c.in-Err-ready_all.ensures.children
+give_back-requires-clause-out g c = readying_out g.M.Machine.view c.in-Err-ready_all.ensures.children
 
 pub give_back-requires-clause-distinct : goal.give_back-requires-clause-distinct
-give_back-requires-clause-distinct g c = readying_distinct g.M.Machine.view c.fork_plans.new.machine c.ready_all.new.machine c.put.new.v.items
-    c.ready_all.new.children.items c.ready_all.new.readied.items c.in-Err-ready_all.ensures.children
+give_back-requires-clause-distinct g c = readying_distinct g.M.Machine.view c.in-Err-ready_all.ensures.children
 
 pub returns-in-Ok-ready_all-clause-prepared : goal.returns-in-Ok-ready_all-clause-prepared
 returns-in-Ok-ready_all-clause-prepared g c =
     let V = g.M.Machine.view in let e = c.in-Ok.ensures in let A = V.meanings c.args.machine.now in
-    let q : Child g.row.M-State.Denot g.row.M-Change.Denot = record {
-      state = c.args.own;
-      members = c.unwrap-last.result.members;
-      change =
-          c.unwrap-last.result.change;
-    } in
-    let split : c.args.plans.now.items ≡ c.pop.new.self.items ++ c.unwrap-last.result ∷ [] = c.pop.ensures.items
-    ∙ ap (λ r. c.pop.new.self.items ++ option_to_list r) c.unwrap-last.ensures in
-    let planned : IsPermutation (plans_of c.args.plans.now.items) (map planned_of (c.fork_plans.new.children.items ++ q ∷ [])) =
-    plans_moved c.pop.new.self.items c.unwrap-last.result c.args.plans.now.items c.fork_plans.new.children.items q split e.plans refl in
+    let q = own_child c.args.own c.unwrap-last.result in
     let known : All (λ x. IsKnown A (V.stands c.args.machine.now c.args.own) x.1) (plans_of c.args.plans.now.items) =
     All-map (λ (x : List ℕ × g.row.M-Change.Denot). IsKnown A (V.stands c.args.machine.now c.args.own) x.1)
     (λ (x : Plan g.row.M-Change.Denot). (x.members, x.change)) c.args.plans.now.items c.requires.known in
@@ -113,50 +71,30 @@ returns-in-Ok-ready_all-clause-prepared g c =
     subst (λ xs. AreReadying V c.fork_plans.new.machine c.ready_all.new.machine xs [] c.ready_all.new.readied.items) c.put.ensures.items
     (subst (λ xs. AreReadying V c.fork_plans.new.machine c.ready_all.new.machine c.put.new.v.items xs c.ready_all.new.readied.items)
     c.in-Ok-ready_all.ensures.all c.in-Ok-ready_all.ensures.children) in
-    prepared V g.met.M.Machine.lawful c.args.machine.now c.fork_plans.new.machine c.args.own c.requires.out c.fork_plans.new.children.items e.forks e.keeps q
-    refl
-    c.requires.live (plans_of c.args.plans.now.items) known planned c.ready_all.new.machine c.ready_all.new.readied.items r
+    prepared g.met.M.Machine.lawful c.requires.out _ e.forks e.keeps q refl c.requires.live known
+    (plans_moved _ _ c.args.own c.pop.ensures.items c.unwrap-last.ensures c.in-Ok.ensures.plans) r
 
 pub returns-in-Ok-ready_all-clause-readied : goal.returns-in-Ok-ready_all-clause-readied
 returns-in-Ok-ready_all-clause-readied g c =
     let V = g.M.Machine.view in let e = c.in-Ok.ensures in let A = V.meanings c.args.machine.now in
-    let q : Child g.row.M-State.Denot g.row.M-Change.Denot = record {
-      state = c.args.own;
-      members = c.unwrap-last.result.members;
-      change =
-          c.unwrap-last.result.change;
-    } in
-    let split : c.args.plans.now.items ≡ c.pop.new.self.items ++ c.unwrap-last.result ∷ [] = c.pop.ensures.items
-    ∙ ap (λ r. c.pop.new.self.items ++ option_to_list r) c.unwrap-last.ensures in
-    let planned : IsPermutation (plans_of c.args.plans.now.items) (map planned_of (c.fork_plans.new.children.items ++ q ∷ [])) =
-    plans_moved c.pop.new.self.items c.unwrap-last.result c.args.plans.now.items c.fork_plans.new.children.items q split e.plans refl in
-    let w = weights_are A.weight (plans_of c.args.plans.now.items) (c.fork_plans.new.children.items ++ q ∷ []) planned in
-    let m = ap (λ B. weights_of B c.put.new.v.items) e.keeps.meanings ∙ ap (weights_of A) c.put.ensures.items ∙ w in
+    let m = ap (λ B. weights_of B c.put.new.v.items) e.keeps.meanings ∙ ap (weights_of A) c.put.ensures.items
+    ∙ weights_are A.weight _ (plans_moved _ _ c.args.own c.pop.ensures.items c.unwrap-last.ensures c.in-Ok.ensures.plans) in
     omega (arith, m, e.counts.readied, c.in-Ok-ready_all.ensures.count_ok)
 
 pub returns-in-Err-clause-err : goal.returns-in-Err-clause-err
 returns-in-Err-clause-err g c =
-    let V = g.M.Machine.view in let e = c.in-Err.ensures in
-    fork_refused V g.met.M.Machine.lawful c.args.machine.now c.fork_plans.new.machine c.args.own c.requires.out c.fork_plans.new.children.items e.forks e.keeps
-    c.release_children.new.machine
-    c.release_children.ensures.out c.release_children.ensures.keeps
+    let e = c.in-Err.ensures in
+    fork_refused g.met.M.Machine.lawful c.requires.out _ e.forks e.keeps c.release_children.ensures.out c.release_children.ensures.keeps
 
 pub returns-in-Err-ready_all-clause-err : goal.returns-in-Err-ready_all-clause-err
 returns-in-Err-ready_all-clause-err g c =
     let V = g.M.Machine.view in let e = c.in-Ok.ensures in
-    let q : Child g.row.M-State.Denot g.row.M-Change.Denot = record {
-      state = c.args.own;
-      members = c.unwrap-last.result.members;
-      change =
-          c.unwrap-last.result.change;
-    } in
+    let q = own_child c.args.own c.unwrap-last.result in
     let r : AreReadying V c.fork_plans.new.machine c.ready_all.new.machine (c.fork_plans.new.children.items ++ q
     ∷ []) c.ready_all.new.children.items c.ready_all.new.readied.items =
     subst (λ xs. AreReadying V c.fork_plans.new.machine c.ready_all.new.machine xs c.ready_all.new.children.items c.ready_all.new.readied.items)
     c.put.ensures.items c.in-Err-ready_all.ensures.children in
-    ready_refused V g.met.M.Machine.lawful c.args.machine.now c.fork_plans.new.machine c.args.own c.requires.out c.fork_plans.new.children.items e.forks e.keeps
-    q refl
-    c.ready_all.new.machine c.give_back.new.machine c.ready_all.new.children.items c.ready_all.new.readied.items r c.give_back.result c.give_back.ensures.back
+    ready_refused g.met.M.Machine.lawful c.requires.out _ e.forks e.keeps q refl r c.give_back.ensures.back
 
 pub returns-in-Ok-ready_all-clause-readied_at_most : goal.returns-in-Ok-ready_all-clause-readied_at_most
 returns-in-Ok-ready_all-clause-readied_at_most g c = omega (arith, returns-in-Ok-ready_all-clause-readied g c)
@@ -164,16 +102,6 @@ returns-in-Ok-ready_all-clause-readied_at_most g c = omega (arith, returns-in-Ok
 pub returns-in-Err-ready_all-clause-readied_at_most : goal.returns-in-Err-ready_all-clause-readied_at_most
 returns-in-Err-ready_all-clause-readied_at_most g c =
     let V = g.M.Machine.view in let e = c.in-Ok.ensures in let A = V.meanings c.args.machine.now in
-    let q : Child g.row.M-State.Denot g.row.M-Change.Denot = record {
-      state = c.args.own;
-      members = c.unwrap-last.result.members;
-      change =
-          c.unwrap-last.result.change;
-    } in
-    let split : c.args.plans.now.items ≡ c.pop.new.self.items ++ c.unwrap-last.result ∷ [] = c.pop.ensures.items
-    ∙ ap (λ r. c.pop.new.self.items ++ option_to_list r) c.unwrap-last.ensures in
-    let planned : IsPermutation (plans_of c.args.plans.now.items) (map planned_of (c.fork_plans.new.children.items ++ q ∷ [])) =
-    plans_moved c.pop.new.self.items c.unwrap-last.result c.args.plans.now.items c.fork_plans.new.children.items q split e.plans refl in
-    let w = weights_are A.weight (plans_of c.args.plans.now.items) (c.fork_plans.new.children.items ++ q ∷ []) planned in
-    let m = ap (λ B. weights_of B c.put.new.v.items) e.keeps.meanings ∙ ap (weights_of A) c.put.ensures.items ∙ w in
+    let m = ap (λ B. weights_of B c.put.new.v.items) e.keeps.meanings ∙ ap (weights_of A) c.put.ensures.items
+    ∙ weights_are A.weight _ (plans_moved _ _ c.args.own c.pop.ensures.items c.unwrap-last.ensures c.in-Ok.ensures.plans) in
     omega (arith, m, e.counts.readied, c.in-Err-ready_all.ensures.count_at_most, c.give_back.ensures.counts.readied)

@@ -7,8 +7,7 @@ use Rattle.exec_core.proofs.divide.ready_all.Goals as goal
 
 pub loop-child-init : goal.loop-child-init
 loop-child-init g c = let V = g.M.Machine.view in record {
-  children = readying_all V g.met.M.Machine.lawful c.args.machine.now c.args.children.now.items c.args.readied.now.items c.requires.planned c.requires.distinct
-      c.requires.empty;
+  children = readying_all _ g.met.M.Machine.lawful _ _ _ c.requires.planned c.requires.distinct c.requires.empty;
   room = c.requires.room;
   readied = refl;
   at_least = omega arith;
@@ -37,8 +36,7 @@ loop-child-preserved g c =
     i.children in
     record {
       children = subst (λ xs. AreReadying V c.args.machine.now c.ready.new.self c.args.children.now.items c.pop.new.self.items xs) (sym c.put.ensures.items)
-          (readying_more V g.met.M.Machine.lawful c.args.machine.now c.loop-child.machine c.ready.new.self c.args.children.now.items c.pop.new.self.items
-          c.loop-child.readied.items p q b t e.out_numbers e.ready);
+          (readying_more _ g.met.M.Machine.lawful _ _ _ _ _ _ p q b t e.out_numbers e.ready);
       room = omega (arith, c.in-Some.ensures.cases, c.put.ensures.len, c.put.ensures.capacity);
       readied =
           (let A = V.meanings c.args.machine.now in
@@ -71,8 +69,7 @@ returns-in-Err-clause-children g c =
     subst (λ xs. AreReadying V c.args.machine.now c.loop-child.machine c.args.children.now.items xs c.loop-child.readied.items) c.in-Some.ensures.items
     i.children in
     subst (λ xs. AreReadying V c.args.machine.now c.ready.new.self c.args.children.now.items xs c.loop-child.readied.items) (sym c.put-in-Err.ensures.items)
-    (readying_back V g.met.M.Machine.lawful c.args.machine.now c.loop-child.machine c.ready.new.self c.args.children.now.items c.pop.new.self.items
-    c.loop-child.readied.items p q b t e.out_numbers)
+    (readying_back _ g.met.M.Machine.lawful _ _ _ _ _ _ p q b t e.out_numbers)
 
 pub returns-in-Err-clause-count_at_least : goal.returns-in-Err-clause-count_at_least
 returns-in-Err-clause-count_at_least g c = omega (arith, c.ready.ensures.counts_within.readied.least, c.loop-child.invariant.at_least)

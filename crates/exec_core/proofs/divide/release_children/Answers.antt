@@ -18,8 +18,7 @@ release-requires g c =
 pub loop-child-init : goal.loop-child-init
 loop-child-init g c =
     record {
-      left = left_all g.M.Machine.view g.met.M.Machine.lawful c.args.machine.now
-          (states_of c.args.children.now.items) c.requires.out c.requires.distinct;
+      left = left_all g.M.Machine.view g.met.M.Machine.lawful c.args.machine.now (states_of c.args.children.now.items) c.requires.out c.requires.distinct;
       counts = same_counts _;
     }
 

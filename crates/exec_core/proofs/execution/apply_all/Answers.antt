@@ -11,7 +11,7 @@ pub loop-child-init : goal.loop-child-init
 loop-child-init g c = let V = g.M.Machine.view in record {
   made = [];
   added = sym (append-nil c.args.lives.now.items);
-  children = applying_all V g.met.M.Machine.lawful c.args.machine.now c.args.step c.args.children.now.items c.requires.readied c.requires.distinct;
+  children = applying_all _ g.met.M.Machine.lawful _ _ _ c.requires.readied c.requires.distinct;
   room = c.requires.room;
   applied = refl;
   weighed = refl;
@@ -41,8 +41,7 @@ loop-child-preserved g c =
     record {
       made = i.made ++ q ∷ [];
       added = c.put.ensures.items ∙ ap (λ xs. xs ++ q ∷ []) i.added ∙ append_assoc c.args.lives.now.items i.made (q ∷ []);
-      children = applying_more V g.met.M.Machine.lawful c.args.machine.now c.loop-child.machine c.apply.new.self c.args.step c.args.children.now.items
-          c.pop.new.self.items i.made p q b t;
+      children = applying_more _ g.met.M.Machine.lawful _ _ _ _ _ _ i.made p q b t;
       room = omega (arith, c.in-Some.ensures.cases, c.put.ensures.len, c.put.ensures.capacity);
       applied = omega (arith, c.in-Some.ensures.cases, e.counts.applied, i.applied);
       weighed =

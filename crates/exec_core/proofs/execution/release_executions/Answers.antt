@@ -16,8 +16,7 @@ loop-l-init g c =
     let f : Concrete g.row.M-State.Denot → g.row.M-State.Denot = λ x. x.state in
     let e = map-map V.number f c.args.lives.items in record {
       left = subst (λ ns. AreLeftOf V c.args.machine.now ns c.args.machine.now (map f c.args.lives.items)) e
-          (left_all V g.met.M.Machine.lawful c.args.machine.now (map f c.args.lives.items)
-          (All-map (V.is_out c.args.machine.now) f c.args.lives.items c.requires.out)
+          (left_all _ g.met.M.Machine.lawful _ (map f c.args.lives.items) (All-map (V.is_out c.args.machine.now) f c.args.lives.items c.requires.out)
           (subst (IsDistinct Rattle.std.specs.Prelude.nat_eq) (sym e) c.requires.distinct));
       counts = same_counts _;
     }
@@ -26,8 +25,8 @@ pub loop-l-preserved : goal.loop-l-preserved
 loop-l-preserved g c =
     let V = g.M.Machine.view in
     let f : Concrete g.row.M-State.Denot → g.row.M-State.Denot = λ x. x.state in record {
-      left = left_less V g.met.M.Machine.lawful c.args.machine.now c.loop-l.machine c.release.new.self (state_numbers V c.args.lives.items)
-          (map f c.loop-l.rest.items) (map f c.pop.new.self.items) c.in-Some.l.state c.loop-l.invariant.left
+      left = left_less _ g.met.M.Machine.lawful _ _ _ (state_numbers V c.args.lives.items)
+          (map f c.loop-l.rest.items) (map f c.pop.new.self.items) _ c.loop-l.invariant.left
           (ap (map f) c.in-Some.ensures.items ∙ map-append f c.pop.new.self.items (c.in-Some.l ∷ [])) c.release.ensures.out_numbers c.release.ensures.keeps;
       counts = same_counts_more _ _ _ c.loop-l.invariant.counts c.release.ensures.counts;
     }
@@ -38,11 +37,11 @@ release-requires g c =
     let f : Concrete g.row.M-State.Denot → g.row.M-State.Denot = λ x. x.state in
     All-contains (V.is_out c.loop-l.machine) (map f c.loop-l.rest.items) c.in-Some.l.state c.loop-l.invariant.left.out
     (subst (λ xs. Contains (map f xs) c.in-Some.l.state) (sym c.in-Some.ensures.items)
-    (contains_map f (c.pop.new.self.items ++ c.in-Some.l ∷ []) c.in-Some.l (Contains-push c.pop.new.self.items c.in-Some.l)))
+    (contains_map f (c.pop.new.self.items ++ c.in-Some.l ∷ []) _ (Contains-push c.pop.new.self.items c.in-Some.l)))
 
 pub returns-clause-out_numbers : goal.returns-clause-out_numbers
 returns-clause-out_numbers g c =
     let none : c.loop-l.rest.items ≡ [] = search rules in
-    none_left g.M.Machine.view g.met.M.Machine.lawful c.args.machine.now c.loop-l.machine (state_numbers g.M.Machine.view c.args.lives.items)
+    none_left _ g.met.M.Machine.lawful _ _ (state_numbers g.M.Machine.view c.args.lives.items)
     (map (λ (x : Concrete g.row.M-State.Denot). x.state) c.loop-l.rest.items)
     c.loop-l.invariant.left (ap (map (λ (x : Concrete g.row.M-State.Denot). x.state)) none)

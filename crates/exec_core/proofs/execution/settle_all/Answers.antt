@@ -5,7 +5,7 @@ use Rattle.exec_core.proofs.execution.settle_all.Goals as goal
 
 pub loop-l-init : goal.loop-l-init
 loop-l-init g c = record {
-  settling = settling_none g.M.Machine.view c.args.machine.now c.args.budget c.args.made.now.items c.args.lives.now.items c.args.ended.now.items;
+  settling = settling_none _ _ _ _ _ _;
   out = c.requires.out;
   room_lives = c.requires.room_lives;
   room_ended = c.requires.room_ended;
@@ -14,10 +14,7 @@ loop-l-init g c = record {
 pub loop-l-preserved : goal.loop-l-preserved
 loop-l-preserved g c =
     let V = g.M.Machine.view in let i = c.loop-l.invariant in record {
-      settling = settling_more V c.args.machine.now c.args.budget c.args.made.now.items c.loop-l.made.items c.pop.new.self.items c.args.lives.now.items
-          c.loop-l.lives.items c.settle.new.lives.items
-          c.args.ended.now.items c.loop-l.ended.items c.settle.new.ended.items c.in-Some.l i.settling c.in-Some.ensures.items c.settle.ensures.live
-          c.settle.ensures.over;
+      settling = settling_more _ _ i.settling c.in-Some.ensures.items c.settle.ensures.live c.settle.ensures.over;
       out = All-front (λ (x : Concrete g.row.M-State.Denot). V.is_out c.args.machine.now x.state) c.loop-l.made.items c.pop.new.self.items c.in-Some.l
           c.in-Some.ensures.items i.out;
       room_lives = omega (arith, c.in-Some.ensures.cases, c.settle.ensures.len_lives, c.settle.ensures.capacity_lives);
@@ -32,6 +29,4 @@ settle-requires-clause-out g c =
 pub returns-clause-settled : goal.returns-clause-settled
 returns-clause-settled g c =
     let none : c.loop-l.made.items ≡ [] = search rules in
-    settled g.M.Machine.view c.args.machine.now c.args.budget c.args.made.now.items c.loop-l.made.items c.args.lives.now.items c.loop-l.lives.items
-    c.args.ended.now.items c.loop-l.ended.items
-    c.loop-l.invariant.settling none
+    settled c.loop-l.invariant.settling none

@@ -7,8 +7,7 @@ use Rattle.exec_core.specs.declared.result.Class.{Class}
 use Rattle.exec_core.proofs.finish.analysis_of.Goals as goal
 
 pub returns-clause-moved : goal.returns-clause-moved
-returns-clause-moved g c = subst (IsPermutation (map class_from c.args.engine.ended.items)) (sym c.from_vec.ensures)
-    (IsPermutation-trans (map class_from c.args.engine.ended.items) c.move_classes.new.classes.items c.sort_classes.new.classes.items
+returns-clause-moved g c = subst (IsPermutation (map class_from c.args.engine.ended.items)) (sym c.from_vec.ensures) (IsPermutation-trans _ _ _
     c.move_classes.ensures.moved c.sort_classes.ensures.moved)
 
 pub returns-clause-rising : goal.returns-clause-rising

@@ -29,4 +29,4 @@ pub returns-clause-moved : goal.returns-clause-moved
 returns-clause-moved g c =
     let none : c.loop-l.ended.items ≡ [] = search rules in
     subst (λ xs. IsPermutation xs c.loop-l.classes.items) (ap (λ xs. map class_from xs ++ reverse c.loop-l.classes.items) (sym none) ∙ c.loop-l.invariant.moved)
-    (IsPermutation-sym c.loop-l.classes.items (reverse c.loop-l.classes.items) (IsPermutation-reverse c.loop-l.classes.items))
+    (IsPermutation-sym _ _ (IsPermutation-reverse c.loop-l.classes.items))

@@ -13,8 +13,7 @@ returns-clause-moved g c =
     let xs = c.args.lives.now.items in let at = c.args.at in let x = c.remove-last.result in
     let l : at < length xs = omega (arith, c.if-at-len.false, c.len.ensures, c.args.lives.now.ok.0) in
     subst (IsPermutation xs) (ap (λ ys. ys ++ x ∷ []) (sym c.remove-last.ensures.items) ∙ sym c.put.ensures.items)
-    (IsPermutation-trans xs (x ∷ remove xs at) (remove xs at ++ x ∷ []) (IsPermutation-remove xs at x l c.remove-last.ensures.value)
-    (IsPermutation-sym (remove xs at ++ x ∷ []) (x ∷ remove xs at) (IsPermutation-to_front (remove xs at) x)))
+    (IsPermutation-trans _ _ _ (IsPermutation-remove xs at x l c.remove-last.ensures.value) (IsPermutation-sym _ _ (IsPermutation-to_front (remove xs at) x)))
 
 pub returns-clause-order : goal.returns-clause-order
 returns-clause-order g c before taken l e =

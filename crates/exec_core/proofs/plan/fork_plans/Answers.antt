@@ -37,12 +37,10 @@ loop-plan-preserved g c =
           ∙ append_assoc (map planned_of c.loop-plan.children.items) (planned_of q ∷ []) (reverse (map f c.pop.new.self.items))
           ∙ ap (λ xs. map planned_of c.loop-plan.children.items ++ xs) (sym (reverse-append (map f c.pop.new.self.items) (f p ∷ [])))
           ∙ ap (λ xs. map planned_of c.loop-plan.children.items ++ reverse xs) (sym (map-append f c.pop.new.self.items (p ∷ [])))
-          ∙ ap (λ xs. map planned_of c.loop-plan.children.items ++ reverse (map f xs)) (sym c.in-Some.ensures.items)
-          ∙ i.plans;
+          ∙ ap (λ xs. map planned_of c.loop-plan.children.items ++ reverse (map f xs)) (sym c.in-Some.ensures.items) ∙ i.plans;
       forks = subst (AreForksOf V c.args.machine.now c.args.s.now c.fork.new.self)
           (sym (ap states_of c.put.ensures.items ∙ map-append (λ (x : Child g.row.M-State.Denot g.row.M-Change.Denot). x.state) c.loop-plan.children.items (q
-          ∷ [])))
-          (forks_more V g.met.M.Machine.lawful c.args.machine.now c.loop-plan.machine c.fork.new.self c.args.s.now c.in_ok-state.state
+          ∷ []))) (forks_more V g.met.M.Machine.lawful c.args.machine.now c.loop-plan.machine c.fork.new.self c.args.s.now c.in_ok-state.state
           (states_of c.loop-plan.children.items) i.same i.forks i.keeps e.out e.state e.out_numbers e.keeps);
       counts = same_counts_more _ _ _ i.counts e.counts;
       keeps = keeps_more V g.met.M.Machine.lawful _ _ _ [] [] [] (λ k h. h) (λ k h. h) i.keeps e.keeps;

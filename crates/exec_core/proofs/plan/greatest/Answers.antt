@@ -16,8 +16,7 @@ pub loop-n-preserved : goal.loop-n-preserved
 loop-n-preserved c =
     let top = c.max-top.result in let m = above_both c.loop-n.top (slice_index c.args.numbers.now c.loop-n.n-index) top c.max-top.ensures in
     All-more (λ n. n ≤ top) c.args.numbers.now c.loop-n.n-index 0 c.loop-n-test.true
-    (All-weaker (λ n. n ≤ c.loop-n.top) (λ n. n ≤ top) (λ x h. let a = m.0 in omega arith) (take c.loop-n.n-index c.args.numbers.now) c.loop-n.invariant)
-    m.1
+    (All-weaker (λ n. n ≤ c.loop-n.top) (λ n. n ≤ top) (λ x h. let a = m.0 in omega arith) (take c.loop-n.n-index c.args.numbers.now) c.loop-n.invariant) m.1
 
 pub returns : goal.returns
 returns c = subst (All (λ n. n ≤ c.loop-n.top)) (take_all c.loop-n.n-index c.args.numbers.now c.loop-n-test.false) c.loop-n.invariant

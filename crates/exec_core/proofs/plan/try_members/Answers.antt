@@ -63,8 +63,7 @@ returns-in_err-tries-clause-counts_within g c start budget =
     let V = g.M.Machine.view in let A = V.meanings c.args.machine.now in let w = V.stands c.args.machine.now c.args.e.now.state in let p = A.place w in
     let a = V.counts c.args.machine.now in let b = V.counts c.tries.new.self in let t = c.tries.ensures in
     let h = c.deref.ensures.value ∙ at_place c.args.table.now c.place-place.result.0 p c.as_slice-members.result.now c.args.e.now.members
-    c.in_ok-variants.variants.items
-    c.as_slice-members.ensures.members c.place-place.ensures c.in_ok-variants.ensures.variants in
+    c.in_ok-variants.variants.items c.as_slice-members.ensures.members c.place-place.ensures c.in_ok-variants.ensures.variants in
     subst (λ vs. RoseWithin a b (counts_of_tries A w vs)) h t.counts_within
 
 pub returns-clause-counts_within : goal.returns-clause-counts_within
@@ -72,8 +71,7 @@ returns-clause-counts_within g c start budget =
     let V = g.M.Machine.view in let A = V.meanings c.args.machine.now in let w = V.stands c.args.machine.now c.args.e.now.state in let p = A.place w in
     let a = V.counts c.args.machine.now in let b = V.counts c.tries.new.self in let t = c.tries.ensures in
     let h = c.deref.ensures.value ∙ at_place c.args.table.now c.place-place.result.0 p c.as_slice-members.result.now c.args.e.now.members
-    c.in_ok-variants.variants.items
-    c.as_slice-members.ensures.members c.place-place.ensures c.in_ok-variants.ensures.variants in
+    c.in_ok-variants.variants.items c.as_slice-members.ensures.members c.place-place.ensures c.in_ok-variants.ensures.variants in
     subst (λ vs. RoseWithin a b (counts_of_tries A w vs)) h t.counts_within
 
 pub returns-clause-counts : goal.returns-clause-counts
@@ -81,8 +79,7 @@ returns-clause-counts g c start budget =
     let V = g.M.Machine.view in let A = V.meanings c.args.machine.now in let w = V.stands c.args.machine.now c.args.e.now.state in let p = A.place w in
     let a = V.counts c.args.machine.now in let b = V.counts c.tries.new.self in let t = c.in_ok-tries.ensures in
     let h = c.deref.ensures.value ∙ at_place c.args.table.now c.place-place.result.0 p c.as_slice-members.result.now c.args.e.now.members
-    c.in_ok-variants.variants.items
-    c.as_slice-members.ensures.members c.place-place.ensures c.in_ok-variants.ensures.variants in
+    c.in_ok-variants.variants.items c.as_slice-members.ensures.members c.place-place.ensures c.in_ok-variants.ensures.variants in
     subst (λ vs. RoseBy a b (counts_of_tries A w vs)) h t.counts
 
 pub returns-clause-variants : goal.returns-clause-variants

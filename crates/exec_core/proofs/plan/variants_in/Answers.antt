@@ -15,8 +15,7 @@ loop-m-init c = record {
   distinct = rw c.new-variants.ensures.items distinct_none;
   marked = rw c.new-variants.ensures.items (none_marked c.args.marks.now.items);
   at = at_first (λ m. variant_of c.args.table.now m c.args.place.0) c.args.members.now c.mutants_at-touched.result.now c.requires
-      c.mutants_at-touched.ensures.rising
-      (λ m. (c.mutants_at-touched.ensures.exact m).1);
+      c.mutants_at-touched.ensures.rising (λ m. (c.mutants_at-touched.ensures.exact m).1);
 }
 
 pub visit-requires-clause-few : goal.visit-requires-clause-few

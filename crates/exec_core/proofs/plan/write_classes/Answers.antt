@@ -12,12 +12,10 @@ loop-at-preserved c =
     let inside : v < length table = (let a = c.greatest-top.ensures at 0 c.loop-at-test.true in omega (arith, inv.size, a)) in
     record {
       size = (let n = length-set table v x in omega (arith, n, inv.size));
-      class = λ i h. ⊎_elim
-          (λ (l : i < at).
+      class = λ i h. ⊎_elim (λ (l : i < at).
           let apart = apart_from_distinct nat_eq variants i at 0 c.requires.distinct l c.loop-at-test.true in
           get_or-set_other table v (slice_index variants i) x 0 (λ e. true≢false (sym (eq-eqb _ _ e) ∙ apart)) ∙ inv.class i l)
           (λ l. let e : i ≡ at = omega arith in
           ap (λ j. slice_index (Rattle.std.proofs.Common.slice_set table v x) (slice_index variants j)) e ∙ get_or-set_same table v x 0 inside
-          ∙ ap (slice_index classes) (sym e))
-          (cases_lt i at);
+          ∙ ap (slice_index classes) (sym e)) (cases_lt i at);
     }

@@ -11,15 +11,10 @@ returns-in-Ok-clause-going g c =
     let lives = c.settle.new.lives.items in let ended = c.settle.new.ended.items in
     opened V g.met.M.Machine.lawful m c.args.table.now c.args.start c.args.budget _ c.args.meter.now c.requires.out e.some
     (e.splits ∙ c.requires.splits) (e.tries ∙ c.requires.tries) (e.alone ∙ c.requires.alone)
-    (subst (λ ms. goes_on V m c.args.budget (l ms) ≡ true → (lives ≡ l ms ∷ []) × (ended ≡ [])) e.members
-    (λ y. let h = c.settle.ensures.live y in (
+    (subst (λ ms. goes_on V m c.args.budget (l ms) ≡ true → (lives ≡ l ms ∷ []) × (ended ≡ [])) e.members (λ y. let h = c.settle.ensures.live y in (
       h.0 ∙ ap (λ xs. xs ++ l c.in-Ok.members ∷ []) (e.kept.lives ∙ c.requires.lives),
-      h.1 ∙ e.kept.ended
-          ∙ c.requires.ended,
-    )))
-    (subst (λ ms. goes_on V m c.args.budget (l ms) ≡ false → (lives ≡ []) × (ended ≡ l ms ∷ [])) e.members
-    (λ n. let h = c.settle.ensures.over n in (
+      h.1 ∙ e.kept.ended ∙ c.requires.ended,
+    ))) (subst (λ ms. goes_on V m c.args.budget (l ms) ≡ false → (lives ≡ []) × (ended ≡ l ms ∷ [])) e.members (λ n. let h = c.settle.ensures.over n in (
       h.0 ∙ e.kept.lives ∙ c.requires.lives,
-      h.1
-          ∙ ap (λ xs. xs ++ l c.in-Ok.members ∷ []) (e.kept.ended ∙ c.requires.ended),
+      h.1 ∙ ap (λ xs. xs ++ l c.in-Ok.members ∷ []) (e.kept.ended ∙ c.requires.ended),
     )))

@@ -6,7 +6,7 @@ use Rattle.code_form.specs.Trial.{trial_of}
 use Rattle.exec_core.specs.Turned.{Turned, Refused}
 use Rattle.exec_core.proofs.GoingLemmas.{going_more, closer, owed, refused_stops, none_opened, room_left, meter_left, tries_left, alone_left, are_held}
 use Rattle.exec_core.proofs.TurnLemmas.{on_err}
-use Rattle.exec_core.proofs.PickLemmas.{going_arranged, as_far}
+use Rattle.exec_core.proofs.PickLemmas.{going_arranged, same_cost}
 use Rattle.exec_core.proofs.EndingLemmas.{going_stops}
 use Rattle.exec_core.proofs.run.run_all.Goals as goal
 
@@ -19,20 +19,15 @@ returns-in_err-open-clause-stopped g c =
 
 pub take_turn-requires-clause-held : goal.take_turn-requires-clause-held
 take_turn-requires-clause-held g c =
-    let V = g.M.Machine.view in let m = c.args.machine.now in let w = V.stands m c.args.start in let n = V.number c.args.start in let i = c.turns in
-    let go = i.invariant.going in
-    are_held V g.met.M.Machine.lawful m i.machine c.args.table.now w c.args.budget n i.engine c.args.meter.now i.meter c.in_ok-open.ensures.few
-    c.requires.budget c.requires.known go (g.met.M.Machine.lawful.among m c.args.start c.requires.out)
+    are_held g.met.M.Machine.lawful c.args.table.now _ _ c.in_ok-open.ensures.few c.requires.budget c.requires.known c.turns.invariant.going
+    (g.met.M.Machine.lawful.among c.args.machine.now c.args.start c.requires.out)
 
 pub turns-init : goal.turns-init
-turns-init g c =
-    let V = g.M.Machine.view in let m = c.args.machine.now in let w = V.stands m c.args.start in let n = V.number c.args.start in
-    record {
-      going = going_arranged V (trial_of (V.meanings m) c.args.table.now w c.args.budget) m c.open.new.machine n c.args.meter.now c.args.meter.now
-          c.open.new.engine c.arrange.new.engine c.arrange.ensures.arranged c.in_ok-open.ensures.going;
-      idle = c.arrange.ensures.arranged.idle c.in_ok-open.ensures.idle;
-      offered = c.in_ok-arrange.ensures.offered;
-    }
+turns-init g c = record {
+  going = going_arranged _ _ c.arrange.ensures.arranged c.in_ok-open.ensures.going;
+  idle = c.arrange.ensures.arranged.idle c.in_ok-open.ensures.idle;
+  offered = c.in_ok-arrange.ensures.offered;
+}
 
 pub take_turn-requires-clause-some : goal.take_turn-requires-clause-some
 take_turn-requires-clause-some g c =
@@ -45,97 +40,66 @@ take_turn-requires-clause-known g c m p = ap (λ (A : Meanings g.M.Machine.Meani
     c.turns.invariant.going.keeps.meanings ∙ c.requires.known m p
 
 pub take_turn-requires-clause-room : goal.take_turn-requires-clause-room
-take_turn-requires-clause-room g c =
-    let V = g.M.Machine.view in let m = c.args.machine.now in let w = V.stands m c.args.start in let n = V.number c.args.start in let i = c.turns in
-    let go = i.invariant.going in
-    room_left V g.met.M.Machine.lawful m i.machine c.args.table.now w c.args.budget n i.engine c.args.meter.now i.meter c.in_ok-open.ensures.few
-    c.requires.budget c.requires.known go c.requires.room
+take_turn-requires-clause-room g c = room_left g.met.M.Machine.lawful c.args.table.now _ _ c.in_ok-open.ensures.few c.requires.budget c.requires.known
+    c.turns.invariant.going c.requires.room
 
 pub take_turn-requires-clause-room_to_count : goal.take_turn-requires-clause-room_to_count
 take_turn-requires-clause-room_to_count g c =
-    let V = g.M.Machine.view in let m = c.args.machine.now in let w = V.stands m c.args.start in let n = V.number c.args.start in let i = c.turns in
-    let go = i.invariant.going in
-    meter_left V g.met.M.Machine.lawful m i.machine c.args.table.now w c.args.budget n i.engine c.args.meter.now i.meter c.in_ok-open.ensures.few
-    c.requires.budget c.requires.known go c.requires.room_to_count
+    meter_left g.met.M.Machine.lawful c.args.table.now _ _ c.in_ok-open.ensures.few c.requires.budget c.requires.known c.turns.invariant.going
+    c.requires.room_to_count
 
 pub take_turn-requires-clause-tries : goal.take_turn-requires-clause-tries
-take_turn-requires-clause-tries g c =
-    let V = g.M.Machine.view in let m = c.args.machine.now in let w = V.stands m c.args.start in let n = V.number c.args.start in let i = c.turns in
-    let go = i.invariant.going in
-    tries_left V g.met.M.Machine.lawful m i.machine c.args.table.now w c.args.budget n i.engine c.args.meter.now i.meter c.in_ok-open.ensures.few
-    c.requires.budget c.requires.known go
+take_turn-requires-clause-tries g c = tries_left g.met.M.Machine.lawful c.args.table.now _ _ c.in_ok-open.ensures.few c.requires.budget c.requires.known
+    c.turns.invariant.going
 
 pub take_turn-requires-clause-alone : goal.take_turn-requires-clause-alone
-take_turn-requires-clause-alone g c =
-    let V = g.M.Machine.view in let m = c.args.machine.now in let w = V.stands m c.args.start in let n = V.number c.args.start in let i = c.turns in
-    let go = i.invariant.going in
-    alone_left V g.met.M.Machine.lawful m i.machine c.args.table.now w c.args.budget n i.engine c.args.meter.now i.meter c.in_ok-open.ensures.few
-    c.requires.budget c.requires.known go
+take_turn-requires-clause-alone g c = alone_left g.met.M.Machine.lawful c.args.table.now _ _ c.in_ok-open.ensures.few c.requires.budget c.requires.known
+    c.turns.invariant.going
 
 pub turns-preserved : goal.turns-preserved
 turns-preserved g c =
-    let V = g.M.Machine.view in let m = c.args.machine.now in let w = V.stands m c.args.start in let n = V.number c.args.start in let i = c.turns in
-    let go = i.invariant.going in
-    let t = c.in_ok-at.ensures.took w in
-    let turned = subst (λ (A : Meanings g.M.Machine.Meaning g.row.M-Change.Denot). Turned V
-    (trial_of A c.args.table.now w c.args.budget) i.machine c.take_turn.new.machine t.at i.engine c.take_turn.new.engine i.meter c.take_turn.new.meter)
-    i.invariant.going.keeps.meanings t.turned in
-    let going = going_more V g.met.M.Machine.lawful m i.machine c.args.table.now w c.args.budget n i.engine c.args.meter.now i.meter c.in_ok-open.ensures.few
-    c.requires.budget c.requires.known go (g.met.M.Machine.lawful.among m c.args.start c.requires.out) c.take_turn.new.machine t.at c.take_turn.new.engine
-    c.take_turn.new.meter c.in_ok-at.ensures.held c.in_ok-at.ensures.keeps turned in
+    let V = g.M.Machine.view in let w = V.stands c.args.machine.now c.args.start in let i = c.turns in let t = c.in_ok-at.ensures.took w in
+    let turned = subst (λ (A : Meanings g.M.Machine.Meaning g.row.M-Change.Denot). Turned V (trial_of A c.args.table.now w c.args.budget) i.machine
+    c.take_turn.new.machine t.at i.engine c.take_turn.new.engine i.meter c.take_turn.new.meter) i.invariant.going.keeps.meanings t.turned in
     record {
-      going = going_arranged V (trial_of (V.meanings m) c.args.table.now w c.args.budget) m c.take_turn.new.machine n c.args.meter.now c.take_turn.new.meter
-          c.take_turn.new.engine c.rearrange.new.engine c.rearrange.ensures.arranged going;
+      going = going_arranged _ _ c.rearrange.ensures.arranged
+          (going_more g.met.M.Machine.lawful c.args.table.now _ _ c.in_ok-open.ensures.few c.requires.budget c.requires.known c.turns.invariant.going
+          (g.met.M.Machine.lawful.among c.args.machine.now c.args.start c.requires.out) c.in_ok-at.ensures.held c.in_ok-at.ensures.keeps turned);
       idle = c.rearrange.ensures.arranged.idle c.in_ok-at.ensures.idle;
       offered = c.in_ok-rearrange.ensures.offered i.engine.lives.items i.invariant.offered c.in_ok-at.ensures.replaced;
     }
 
 pub turns-smaller : goal.turns-smaller
 turns-smaller g c =
-    let V = g.M.Machine.view in let m = c.args.machine.now in let w = V.stands m c.args.start in let n = V.number c.args.start in let i = c.turns in
-    let go = i.invariant.going in
-    let t = c.in_ok-at.ensures.took w in
-    let turned = subst (λ (A : Meanings g.M.Machine.Meaning g.row.M-Change.Denot). Turned V
-    (trial_of A c.args.table.now w c.args.budget) i.machine c.take_turn.new.machine t.at i.engine c.take_turn.new.engine i.meter c.take_turn.new.meter)
-    i.invariant.going.keeps.meanings t.turned in
-    let l = closer V g.met.M.Machine.lawful m i.machine c.args.table.now w c.args.budget n i.engine c.args.meter.now i.meter c.in_ok-open.ensures.few
-    c.requires.budget c.requires.known go (g.met.M.Machine.lawful.among m c.args.start c.requires.out) c.take_turn.new.machine t.at c.take_turn.new.engine
-    c.take_turn.new.meter c.in_ok-at.ensures.held c.in_ok-at.ensures.keeps turned in let o =
-    owed V g.met.M.Machine.lawful m i.machine c.args.table.now w c.args.budget n i.engine c.args.meter.now i.meter c.in_ok-open.ensures.few
-    c.requires.budget c.requires.known go (g.met.M.Machine.lawful.among m c.args.start c.requires.out) c.take_turn.new.machine t.at
-    c.take_turn.new.engine c.take_turn.new.meter c.in_ok-at.ensures.held c.in_ok-at.ensures.keeps turned in
-    let s = as_far V (trial_of (V.meanings m) c.args.table.now w c.args.budget) m c.take_turn.new.machine n c.args.meter.now c.take_turn.new.meter
-    c.take_turn.new.engine
-    c.rearrange.new.engine c.rearrange.ensures.arranged in
+    let V = g.M.Machine.view in let w = V.stands c.args.machine.now c.args.start in let i = c.turns in let t = c.in_ok-at.ensures.took w in
+    let turned = subst (λ (A : Meanings g.M.Machine.Meaning g.row.M-Change.Denot). Turned V (trial_of A c.args.table.now w c.args.budget) i.machine
+    c.take_turn.new.machine t.at i.engine c.take_turn.new.engine i.meter c.take_turn.new.meter) i.invariant.going.keeps.meanings t.turned in
+    let l = closer g.met.M.Machine.lawful c.args.table.now _ _ c.in_ok-open.ensures.few c.requires.budget c.requires.known c.turns.invariant.going
+    (g.met.M.Machine.lawful.among c.args.machine.now c.args.start c.requires.out)
+    c.in_ok-at.ensures.held c.in_ok-at.ensures.keeps turned in
+    let o = owed g.met.M.Machine.lawful c.args.table.now _ _ c.in_ok-open.ensures.few c.requires.budget c.requires.known c.turns.invariant.going
+    (g.met.M.Machine.lawful.among c.args.machine.now c.args.start c.requires.out)
+    c.in_ok-at.ensures.held c.in_ok-at.ensures.keeps turned in
+    let s = same_cost V c.take_turn.new.machine c.rearrange.ensures.arranged (λ m n. 1) in
     omega (arith, l, o, s)
 
 pub returns-in_err-arrange-clause-stopped : goal.returns-in_err-arrange-clause-stopped
 returns-in_err-arrange-clause-stopped g c =
-    let V = g.M.Machine.view in let m = c.args.machine.now in let w = V.stands m c.args.start in let n = V.number c.args.start in
-    let go = going_arranged V (trial_of (V.meanings m) c.args.table.now w c.args.budget) m c.open.new.machine n c.args.meter.now c.args.meter.now
-    c.open.new.engine c.arrange.new.engine c.arrange.ensures.arranged c.in_ok-open.ensures.going in
     on_err c.from_residual-in_err-arrange.result
-    (going_stops V g.met.M.Machine.lawful m c.open.new.machine c.args.table.now w c.args.budget n c.arrange.new.engine c.args.meter.now c.args.meter.now go)
+    (going_stops g.met.M.Machine.lawful c.args.table.now _ _ (going_arranged _ _ c.arrange.ensures.arranged c.in_ok-open.ensures.going))
 
 pub returns-in_err-arrange-clause-idle : goal.returns-in_err-arrange-clause-idle
 returns-in_err-arrange-clause-idle g c = c.arrange.ensures.arranged.idle c.in_ok-open.ensures.idle
 
 pub returns-in_err-rearrange-clause-stopped : goal.returns-in_err-rearrange-clause-stopped
 returns-in_err-rearrange-clause-stopped g c =
-    let V = g.M.Machine.view in let m = c.args.machine.now in let w = V.stands m c.args.start in let n = V.number c.args.start in let i = c.turns in
-    let go = i.invariant.going in
-    let t = c.in_ok-at.ensures.took w in
-    let turned = subst (λ (A : Meanings g.M.Machine.Meaning g.row.M-Change.Denot). Turned V
-    (trial_of A c.args.table.now w c.args.budget) i.machine c.take_turn.new.machine t.at i.engine c.take_turn.new.engine i.meter c.take_turn.new.meter)
-    i.invariant.going.keeps.meanings t.turned in
-    let going = going_more V g.met.M.Machine.lawful m i.machine c.args.table.now w c.args.budget n i.engine c.args.meter.now i.meter c.in_ok-open.ensures.few
-    c.requires.budget c.requires.known go (g.met.M.Machine.lawful.among m c.args.start c.requires.out) c.take_turn.new.machine t.at c.take_turn.new.engine
-    c.take_turn.new.meter c.in_ok-at.ensures.held c.in_ok-at.ensures.keeps turned in
-    let after = going_arranged V (trial_of (V.meanings m) c.args.table.now w c.args.budget) m c.take_turn.new.machine n c.args.meter.now c.take_turn.new.meter
-    c.take_turn.new.engine c.rearrange.new.engine c.rearrange.ensures.arranged going in
-    on_err c.from_residual-in_err-rearrange.result
-    (going_stops V g.met.M.Machine.lawful m c.take_turn.new.machine c.args.table.now w c.args.budget n c.rearrange.new.engine c.args.meter.now
-    c.take_turn.new.meter after)
+    let V = g.M.Machine.view in let w = V.stands c.args.machine.now c.args.start in let i = c.turns in let t = c.in_ok-at.ensures.took w in
+    let turned = subst (λ (A : Meanings g.M.Machine.Meaning g.row.M-Change.Denot). Turned V (trial_of A c.args.table.now w c.args.budget) i.machine
+    c.take_turn.new.machine t.at i.engine c.take_turn.new.engine i.meter c.take_turn.new.meter) i.invariant.going.keeps.meanings t.turned in
+    on_err c.from_residual-in_err-rearrange.result (going_stops g.met.M.Machine.lawful c.args.table.now _ _ (going_arranged _ _ c.rearrange.ensures.arranged
+    (going_more g.met.M.Machine.lawful c.args.table.now _ _ c.in_ok-open.ensures.few c.requires.budget c.requires.known c.turns.invariant.going
+    (g.met.M.Machine.lawful.among c.args.machine.now c.args.start c.requires.out)
+    c.in_ok-at.ensures.held c.in_ok-at.ensures.keeps turned)))
 
 pub returns-in_err-rearrange-clause-idle : goal.returns-in_err-rearrange-clause-idle
 returns-in_err-rearrange-clause-idle g c = c.rearrange.ensures.arranged.idle c.in_ok-at.ensures.idle
@@ -145,13 +109,10 @@ rearrange-requires g c = omega (arith, c.in_ok-at.ensures.at, ap length c.deref.
 
 pub returns-in_err-at-clause-stopped : goal.returns-in_err-at-clause-stopped
 returns-in_err-at-clause-stopped g c =
-    let V = g.M.Machine.view in let m = c.args.machine.now in let w = V.stands m c.args.start in let n = V.number c.args.start in let i = c.turns in
-    let go = i.invariant.going in
-    let r = c.in_err-at.ensures.refused w in
+    let V = g.M.Machine.view in let w = V.stands c.args.machine.now c.args.start in let i = c.turns in let r = c.in_err-at.ensures.refused w in
     on_err c.from_residual-in_err-at.result
-    (refused_stops V g.met.M.Machine.lawful m i.machine c.args.table.now w c.args.budget n i.engine c.args.meter.now i.meter c.in_ok-open.ensures.few
-    c.requires.budget c.requires.known go (g.met.M.Machine.lawful.among m c.args.start c.requires.out) c.take_turn.new.machine r.at c.take_turn.new.engine
-    c.take_turn.new.meter c.take_turn.ensures.held c.take_turn.ensures.keeps
-    (subst (λ (A : Meanings g.M.Machine.Meaning g.row.M-Change.Denot). Refused V
-    (trial_of A c.args.table.now w c.args.budget) i.machine c.take_turn.new.machine r.at i.engine c.take_turn.new.engine i.meter c.take_turn.new.meter)
-    i.invariant.going.keeps.meanings r.refused))
+    (refused_stops g.met.M.Machine.lawful c.args.table.now _ _ c.in_ok-open.ensures.few c.requires.budget c.requires.known c.turns.invariant.going
+    (g.met.M.Machine.lawful.among c.args.machine.now c.args.start c.requires.out)
+    c.take_turn.ensures.held c.take_turn.ensures.keeps
+    (subst (λ (A : Meanings g.M.Machine.Meaning g.row.M-Change.Denot). Refused V (trial_of A c.args.table.now w c.args.budget) i.machine
+    c.take_turn.new.machine r.at i.engine c.take_turn.new.engine i.meter c.take_turn.new.meter) i.invariant.going.keeps.meanings r.refused))

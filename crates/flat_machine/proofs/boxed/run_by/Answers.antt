@@ -1,7 +1,7 @@
-use Rattle.std.proofs.Common.{ℕ, ◌*◌, ◌≤◌, ◌^◌, List, map, length, sym, subst, ap, arith}
+use Rattle.std.proofs.Common.{ℕ, ◌*◌, ◌≤◌, ◌^◌, map, length, sym, subst, ap, arith}
 use Rattle.std.proofs.lemmas.List.{take_at}
 use Rattle.machine_form.specs.Machine.{case_trial}
-use Rattle.ports.specs.Asks.{answers_in, asked_in, AskedBy, AskedAtMostBy}
+use Rattle.ports.specs.Asks.{answers_in, asked_in, AskedAtMostBy}
 use Rattle.plain_machine.specs.Tolls.{tolls_of}
 use Rattle.flat_machine.proofs.Written.{written_back}
 use Rattle.flat_machine.proofs.boxed.run_by.Goals as goal

@@ -1,9 +1,9 @@
-use Rattle.std.proofs.Common.{ℕ, ◌+◌, ◌<◌, ◌^◌, List, map, length, sym, subst, ap, arith}
-use Rattle.std.specs.Prelude.{sum_by, OnOk}
+use Rattle.std.proofs.Common.{ℕ, ◌+◌, ◌<◌, ◌^◌, map, length, sym, subst, ap, arith}
+use Rattle.std.specs.Prelude.{sum_by}
 use Rattle.std.proofs.lemmas.List.{take_at}
 use Rattle.code_form.specs.Variant.{instr_of}
 use Rattle.machine_form.specs.Machine.{toll_of}
-use Rattle.ports.specs.Asks.{asked_in, AskedBy, AskedAtMostBy}
+use Rattle.ports.specs.Asks.{asked_in, AskedAtMostBy}
 use Rattle.flat_machine.proofs.Written.{written_back}
 use Rattle.flat_machine.proofs.boxed.try_by.Goals as goal
 

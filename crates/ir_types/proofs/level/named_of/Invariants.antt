@@ -1,10 +1,12 @@
+use Rattle.std.proofs.Common.{◌≡◌, ℕ, false}
 use Rattle.type_table.specs.Table.{Keeps}
-use Rattle.ir_rules.specs.Types.{type_defs}
-use Rattle.ir_types.specs.Named.{Level}
+use Rattle.ir_types.specs.Graph.{held}
+use Rattle.ir_types.specs.Named.{AreExact, Left}
 use Rattle.ir_types.proofs.level.named_of.Given as goal
 
-abbrev pub invariant-levels : goal.invariant-levels
-invariant-levels l = record {
+abbrev pub invariant-passes : goal.invariant-passes
+invariant-passes l = record {
   kept : Keeps l.initial.table l.table;
-  level : Level l.table l.numbers l.recursive l.named (type_defs l.items) l._level;
+  exact : AreExact l.graph l.naming l.table;
+  left : (d : ℕ) → held l.naming.done d ≡ false → Left l.graph.edges.now l.graph.recursive.now l._pass d;
 }

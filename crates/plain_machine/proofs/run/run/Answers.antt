@@ -57,8 +57,8 @@ returns-clause-asks_at_most g c p =
     let all = tolls_spent T c.args.m p (c.args.case.now.budget - c.loop-i.i) c.loop-i.s.state _ _ (omega arith) (c.loop-i.invariant.asks p) in
     (c.loop-i.invariant.rise p, omega (arith, all))
 
-pub returns-in_err-change-clause-asks_at_most : goal.returns-in_err-change-clause-asks_at_most
-returns-in_err-change-clause-asks_at_most g c p =
+pub returns-in_err-next-clause-asks_at_most : goal.returns-in_err-next-clause-asks_at_most
+returns-in_err-next-clause-asks_at_most g c p =
     let T = case_trial c.args.program.now c.args.variants.now (answers_in (map (λ q. (goal.Port-dyn g (q.vtable, q.value)).answers q.value) c.args.ports.now)) c.args.case.now in
     let more : c.args.case.now.budget - c.loop-i.i ≡ suc (c.args.case.now.budget - (c.loop-i.i + 1)) = omega arith in
     let lives : is_some c.loop-i.s.state.ending ≡ false = sym c.has_ended.ensures ∙ c.if-has_ended.false in
@@ -82,16 +82,16 @@ ready-requires g c =
     let v = variant_of c.args.variants.now c.args.m c.loop-i.s.state.running.place in
     let P : Change → Type 0 = λ d. d.top ≤ MEMORY_BYTES in
     let runs = variant_runs c.args.program.now c.args.variants.now answers c.requires.sound c.requires.table c.loop-i.s.state c.loop-i.invariant.running v in
-    subst P (sym c.in_ok-change.ensures.change) runs.sound.top
+    subst P (sym c.in_ok-next.ensures.change) runs.sound.top
 
 pub apply-requires-clause-can : goal.apply-requires-clause-can
 apply-requires-clause-can g c =
     let answers = answers_in (map (λ q. (goal.Port-dyn g (q.vtable, q.value)).answers q.value) c.loop-i.ports) in
     let v = variant_of c.args.variants.now c.args.m c.loop-i.s.state.running.place in
     let P : Change → Type 0 = λ d. CanApply c.args.program.now c.loop-i.s.state d d.control in
-    let Q : State → Type 0 = λ t. CanApply c.args.program.now t c.in_ok-change.change c.in_ok-change.change.control in
+    let Q : State → Type 0 = λ t. CanApply c.args.program.now t c.next.new.out c.next.new.out.control in
     subst Q (sym c.ready.ensures.state)
-    (subst P (sym c.in_ok-change.ensures.change) (variant_applies c.args.program.now c.args.variants.now answers c.requires.sound c.requires.table c.loop-i.s.state c.loop-i.invariant.running v))
+    (subst P (sym c.in_ok-next.ensures.change) (variant_applies c.args.program.now c.args.variants.now answers c.requires.sound c.requires.table c.loop-i.s.state c.loop-i.invariant.running v))
 
 pub loop-i-preserved : goal.loop-i-preserved
 loop-i-preserved g c =
@@ -103,17 +103,17 @@ loop-i-preserved g c =
     let answers = answers_in (map (λ q. (goal.Port-dyn g (q.vtable, q.value)).answers q.value) c.loop-i.ports) in
     let v = variant_of c.args.variants.now c.args.m c.loop-i.s.state.running.place in
     let runs = variant_runs c.args.program.now c.args.variants.now answers c.requires.sound c.requires.table c.loop-i.s.state c.loop-i.invariant.running v in
-    let is = c.in_ok-change.ensures.change ∙ ap (λ (known : List (List ℕ → Option ℕ)). next_by c.args.program.now c.args.variants.now (answers_in known) v c.loop-i.s.state) c.loop-i.invariant.answers in
-    let applied = c.apply.ensures ∙ ap (λ (t : State). after_change c.args.program.now t c.in_ok-change.change) c.ready.ensures.state in
-    let leads = applied ∙ ap (after_change c.args.program.now c.loop-i.s.state) c.in_ok-change.ensures.change in
+    let is = c.in_ok-next.ensures.change ∙ ap (λ (known : List (List ℕ → Option ℕ)). next_by c.args.program.now c.args.variants.now (answers_in known) v c.loop-i.s.state) c.loop-i.invariant.answers in
+    let applied = c.apply.ensures ∙ ap (λ (t : State). after_change c.args.program.now t c.next.new.out) c.ready.ensures.state in
+    let leads = applied ∙ ap (after_change c.args.program.now c.loop-i.s.state) c.in_ok-next.ensures.change in
     let toll = λ (p : ℕ). toll_small p c.loop-i.s.state (instr_of c.args.program.now c.args.variants.now c.loop-i.s.state.running.place v) in
     record {
-      state = state_more T c.args.m n k c.loop-i.s.state c.apply.new.s.state c.in_ok-change.change more lives is applied _ c.loop-i.invariant.state;
-      length = length_more T c.args.m n k c.loop-i.s.state c.apply.new.s.state c.in_ok-change.change more lives is applied c.loop-i.i _ c.loop-i.invariant.length;
+      state = state_more T c.args.m n k c.loop-i.s.state c.apply.new.s.state c.next.new.out more lives is applied _ c.loop-i.invariant.state;
+      length = length_more T c.args.m n k c.loop-i.s.state c.apply.new.s.state c.next.new.out more lives is applied c.loop-i.i _ c.loop-i.invariant.length;
       running = subst (IsRunning c.args.program.now) (sym leads) runs;
       signs = c.next.ensures.signs ∙ c.loop-i.invariant.signs;
       answers = c.next.ensures.answers ∙ c.loop-i.invariant.answers;
-      asks = λ p. tolls_more T c.args.m n k c.loop-i.s.state c.apply.new.s.state c.in_ok-change.change more lives is applied p _ _ _ (c.in_ok-change.ensures.asks p) (c.loop-i.invariant.asks p);
-      rise = λ p. omega (arith, c.loop-i.invariant.rise p, c.in_ok-change.ensures.asks p);
-      few = λ p. omega (arith, c.loop-i.invariant.few p, c.in_ok-change.ensures.asks p, toll p);
+      asks = λ p. tolls_more T c.args.m n k c.loop-i.s.state c.apply.new.s.state c.next.new.out more lives is applied p _ _ _ (c.in_ok-next.ensures.asks p) (c.loop-i.invariant.asks p);
+      rise = λ p. omega (arith, c.loop-i.invariant.rise p, c.in_ok-next.ensures.asks p);
+      few = λ p. omega (arith, c.loop-i.invariant.few p, c.in_ok-next.ensures.asks p, toll p);
     }

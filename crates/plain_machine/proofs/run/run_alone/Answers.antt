@@ -1,4 +1,4 @@
-use Rattle.std.proofs.Common.{List, Option, ℕ, map, ap, sym, subst}
+use Rattle.std.proofs.Common.{map, ap, sym, subst}
 use Rattle.traces.specs.Trace.{Trial}
 use Rattle.code_form.specs.declared.code.Code.{Code}
 use Rattle.machine_form.specs.declared.change.Change.{Change}

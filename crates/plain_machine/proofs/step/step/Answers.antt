@@ -1,4 +1,4 @@
-use Rattle.std.proofs.Common.{◌≡◌, ℕ, List, IfOk, sym, subst}
+use Rattle.std.proofs.Common.{◌≡◌, ℕ, List, OnOk, sym, subst}
 use Rattle.std.specs.List.{All}
 use Rattle.am_base.specs.declared.word.Width.{Width}
 use Rattle.code_form.specs.declared.instr.Operand.{Operand}
@@ -20,8 +20,8 @@ pub returns-in-Call : goal.returns-in-Call
 returns-in-Call c answers =
     let code = c.args.program.now in
     let s = c.args.s.now.state in
-    let P : Instr → Type 0 = λ i. IfOk c.call.result (λ change. change ≡ next_of code answers s c.args.r i) in
-    let Q : List Operand → Type 0 = λ args. IfOk c.call.result (λ change. change ≡ with_value s (values_of s args) (λ xs. call_change code answers s c.args.r c.in-Call.callee xs)) in
-    let R : Code → Type 0 = λ d. IfOk c.call.result
-    (λ change. change ≡ with_value s (values_of s c.as_slice-in-Call.result.now) (λ xs. call_change d answers s c.args.r c.in-Call.callee xs)) in
+    let P : Instr → Type 0 = λ i. OnOk c.call.result (c.call.new.out ≡ next_of code answers s c.args.r i) in
+    let Q : List Operand → Type 0 = λ args. OnOk c.call.result (c.call.new.out ≡ with_value s (values_of s args) (λ xs. call_change code answers s c.args.r c.in-Call.callee xs)) in
+    let R : Code → Type 0 = λ d. OnOk c.call.result
+    (c.call.new.out ≡ with_value s (values_of s c.as_slice-in-Call.result.now) (λ xs. call_change d answers s c.args.r c.in-Call.callee xs)) in
     subst P (sym c.in-Call.is) (subst Q c.as_slice-in-Call.ensures (subst R c.code-in-Call.ensures (c.call.ensures answers)))

@@ -1,4 +1,4 @@
-use Rattle.std.proofs.Common.{ℕ, ◌≤◌, length, get_or, arith}
+use Rattle.std.proofs.Common.{ℕ, arith}
 use Rattle.std.proofs.lemmas.List.Sums.{sum_by-take-le, sum_by_more_le}
 use Rattle.code_form.specs.Variant.{instr_of}
 use Rattle.machine_form.specs.Machine.{toll_of}
@@ -6,24 +6,24 @@ use Rattle.machine_form.proofs.LightChanges.{toll_small}
 use Rattle.plain_machine.proofs.Turns.{few_tolls, whole_sum}
 use Rattle.plain_machine.proofs.tries.try_variants.Goals as goal
 
-pub try_variant-requires-clause-few : goal.try_variant-requires-clause-few
-try_variant-requires-clause-few g c p =
+pub fill_variant-requires-clause-few : goal.fill_variant-requires-clause-few
+fill_variant-requires-clause-few g c p =
     let here : ℕ → ℕ = λ v. toll_of p c.args.s.now.state (instr_of c.args.program.now c.args.table.now c.args.s.now.state.running.place v) in
     let small = few_tolls here c.args.variants.now
     (λ v. toll_small p c.args.s.now.state (instr_of c.args.program.now c.args.table.now c.args.s.now.state.running.place v)) in
     omega (arith, c.loop-v.invariant.asks p, c.requires.few p, small, sum_by-take-le here c.args.variants.now c.loop-v.v-index)
 
-pub returns-in_err-change-clause-asks_at_most : goal.returns-in_err-change-clause-asks_at_most
-returns-in_err-change-clause-asks_at_most g c p =
+pub returns-in_err-fill_variant-clause-asks_at_most : goal.returns-in_err-fill_variant-clause-asks_at_most
+returns-in_err-fill_variant-clause-asks_at_most g c p =
     let here : ℕ → ℕ = λ v. toll_of p c.args.s.now.state (instr_of c.args.program.now c.args.table.now c.args.s.now.state.running.place v) in
     let rest = sum_by_more_le here c.args.variants.now c.loop-v.v-index 0 c.loop-v-test.true in
-    (omega (arith, c.loop-v.invariant.asks p, (c.try_variant.ensures.asks_at_most p).0), omega (arith, c.loop-v.invariant.asks p, (c.try_variant.ensures.asks_at_most p).1, rest))
+    (omega (arith, c.loop-v.invariant.asks p, (c.fill_variant.ensures.asks_at_most p).0), omega (arith, c.loop-v.invariant.asks p, (c.fill_variant.ensures.asks_at_most p).1, rest))
 
 pub returns-in_err-push-clause-asks_at_most : goal.returns-in_err-push-clause-asks_at_most
 returns-in_err-push-clause-asks_at_most g c p =
     let here : ℕ → ℕ = λ v. toll_of p c.args.s.now.state (instr_of c.args.program.now c.args.table.now c.args.s.now.state.running.place v) in
     let rest = sum_by_more_le here c.args.variants.now c.loop-v.v-index 0 c.loop-v-test.true in
-    (omega (arith, c.loop-v.invariant.asks p, (c.try_variant.ensures.asks_at_most p).0), omega (arith, c.loop-v.invariant.asks p, (c.try_variant.ensures.asks_at_most p).1, rest))
+    (omega (arith, c.loop-v.invariant.asks p, (c.fill_variant.ensures.asks_at_most p).0), omega (arith, c.loop-v.invariant.asks p, (c.fill_variant.ensures.asks_at_most p).1, rest))
 
 pub returns-clause-asks : goal.returns-clause-asks
 returns-clause-asks g c p =

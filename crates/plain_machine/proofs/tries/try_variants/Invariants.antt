@@ -1,4 +1,4 @@
-use Rattle.std.proofs.Common.{◌≡◌, ℕ, ◌+◌, ◌≤◌, length, map, take}
+use Rattle.std.proofs.Common.{◌≡◌, ℕ, ◌+◌, map, take}
 use Rattle.std.specs.Prelude.{sum_by}
 use Rattle.code_form.specs.Variant.{instr_of}
 use Rattle.machine_form.specs.Machine.{next_by, toll_of}

@@ -1,4 +1,4 @@
-use Rattle.std.proofs.Common.{◌≡◌, sym, ap, ◌∙◌, subst}
+use Rattle.std.proofs.Common.{sym, ap, ◌∙◌, subst}
 use Rattle.code_form.specs.declared.code.Code.{Code}
 use Rattle.machine_form.specs.declared.change.Change.{Change}
 use Rattle.machine_form.specs.After.{after_change}
