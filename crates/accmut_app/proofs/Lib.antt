@@ -1,4 +1,4 @@
 mod Asked
-mod Due
+pub mod Due
 mod FoundAnswers
 mod Picked

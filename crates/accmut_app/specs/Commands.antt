@@ -11,10 +11,11 @@ use Rattle.code_form.specs.declared.sign.PortSign.{PortSign}
 use Rattle.ports.specs.Asks.{answers_in}
 use Rattle.command_words.specs.Words.{Text, command_of, wanted}
 use Rattle.command_words.specs.declared.command.Command.{Command}
-use Rattle.command_words.specs.declared.command.Command.TheVariants.{Run, Check, Alone, Groups}
+use Rattle.command_words.specs.declared.command.Command.TheVariants.{Run, Check, Make, Alone, Groups, Load}
 use Rattle.command_words.specs.declared.command.Files.{Files}
 use Rattle.command_plan.specs.Plan.{Plan}
-use Rattle.commands.specs.Plans.{check_plan, alone_plan, run_plan, groups_plan}
+use Rattle.work_report.specs.declared.show.Show.TheVariants.{Report}
+use Rattle.commands.specs.Plans.{check_plan, make_plan, alone_plan, run_plan, groups_plan, load_plan}
 
 abbrev pub is_among : List Text → Text → Bool
 is_among [] name = false
@@ -37,20 +38,24 @@ steps_of budget = unwrap_or budget DEFAULT_BUDGET
 
 abbrev pub plan_of : List PortSign → List (List ℕ → Option ℕ) → Command Text → Plan
 plan_of signs answers (Check name) = check_plan signs name
+plan_of signs answers (Make name) = make_plan signs name
 plan_of signs answers (Run files budget order splits) =
-    run_plan signs (answers_in answers) (steps_of budget) files.module files.mutants files.tests splits
+    run_plan signs (answers_in answers) (steps_of budget) files.module files.mutants files.tests (Report splits)
 plan_of signs answers (Alone files mutant test budget) =
     alone_plan signs (answers_in answers) (steps_of budget) files.module files.mutants files.tests
     (record { mutant = mutant; test = test })
 plan_of signs answers (Groups files test step budget order) =
     groups_plan signs (answers_in answers) (steps_of budget) files.module files.mutants files.tests
     (record { test = test; step = step })
+plan_of signs answers (Load number) = load_plan number
 
 abbrev pub names_in : Files Text → List Text
 names_in files = files.module ∷ files.mutants ∷ files.tests ∷ []
 
 abbrev pub names_of : Command Text → List Text
 names_of (Check name) = name ∷ []
+names_of (Make name) = name ∷ []
 names_of (Run files budget order splits) = names_in files
 names_of (Alone files mutant test budget) = names_in files
 names_of (Groups files test step budget order) = names_in files
+names_of (Load number) = []

@@ -5,6 +5,7 @@ ghost use Rattle.am_base.specs.Cause.{Rose};
 ghost use Rattle.ports.specs.Asks.{asked_in};
 ghost use Rattle.command_words.specs.Words.{Text, texts_of};
 ghost use Rattle.command_words.specs.declared.command.Command.{Command};
+ghost use Rattle.command_words.specs.declared.command.Command.TheVariants.{Load};
 ghost use Rattle.command_plan.specs.Answer.{IsAnswer, Stay};
 ghost use Rattle.commands.specs.Alone.{counts_of};
 ghost use Rattle.accmut_app.specs.Commands.{asked_for, plan_of};
@@ -46,6 +47,11 @@ pub(crate) fn accmut_over<F: Shelf, K: Sink, P: Ports>(
         (counts_of meter.old (asked_in (P.outside ports).asked))
         (counts_of meter.new (asked_in (P.outside result.0).asked))
         (K.written sink.old) (K.written sink.new) (Rose (K.faults sink.old) (K.faults sink.new)) result.1 }
+    ensures unread { (number : ℕ) → asked_for (map (λ q. named q) pickers.items) (texts_of words.now) ≡ Some (Load number) →
+        shelf.new ≡ shelf.old }
+    ensures untouched { (number : ℕ) → asked_for (map (λ q. named q) pickers.items) (texts_of words.now) ≡ Some (Load number) →
+        ((name : List ℕ) → F.faults shelf.new name ≡ F.faults shelf.old name)
+        × ((p : ℕ) → asked_in (P.outside result.0).asked p ≡ asked_in (P.outside ports).asked p) }
     ensures signs { (P.outside result.0).signs ≡ (P.outside ports).signs }
     ensures answers { (P.outside result.0).answers ≡ (P.outside ports).answers }
     ensures kept { F.files shelf.new ≡ F.files shelf.old }

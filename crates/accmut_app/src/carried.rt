@@ -5,11 +5,14 @@ ghost use Rattle.am_base.specs.Cause.{Rose};
 ghost use Rattle.ports.specs.Asks.{asked_in};
 ghost use Rattle.command_words.specs.Words as spec;
 ghost use Rattle.command_words.specs.Words.{IsBudget, meant};
+ghost use Rattle.command_words.specs.declared.command.Command.TheVariants.{Load};
 ghost use Rattle.command_plan.specs.Answer.{IsAnswer};
 ghost use Rattle.commands.specs.Alone.{counts_of};
 ghost use Rattle.accmut_app.specs.Commands.{plan_of};
 
-use crate::written::{alone_written, check_written, groups_written, run_written};
+use crate::written::{
+    alone_written, check_written, groups_written, load_written, make_written, run_written,
+};
 use am_base::{Shelf, Sink};
 use command_plan::Status;
 use command_words::Command;
@@ -45,6 +48,7 @@ pub(crate) fn without_picker<F: Shelf, K: Sink, P: Ports>(
 {
     match command {
         Command::Check { module: name } => check_written(alloc, shelf, sink, name, ports),
+        Command::Make { module: name } => make_written(alloc, shelf, sink, name, ports),
         Command::Alone {
             files,
             mutant,
@@ -54,7 +58,7 @@ pub(crate) fn without_picker<F: Shelf, K: Sink, P: Ports>(
             let wanted = Wanted { mutant, test };
             alone_written(alloc, shelf, sink, files, budget, wanted, ports)
         }
-        Command::Run { .. } | Command::Groups { .. } => unreachable!(),
+        Command::Run { .. } | Command::Groups { .. } | Command::Load { .. } => unreachable!(),
     }
 }
 
@@ -78,6 +82,11 @@ pub(crate) fn with_picker<F: Shelf, K: Sink, P: Ports>(
         (counts_of meter.old (asked_in (P.outside ports).asked))
         (counts_of meter.new (asked_in (P.outside result.0).asked))
         (K.written sink.old) (K.written sink.new) (Rose (K.faults sink.old) (K.faults sink.new)) result.1 }
+    ensures unread { (number : ℕ) → meant command ≡ Load number →
+        shelf.new ≡ shelf.old }
+    ensures untouched { (number : ℕ) → meant command ≡ Load number →
+        ((name : List ℕ) → F.faults shelf.new name ≡ F.faults shelf.old name)
+        × ((p : ℕ) → asked_in (P.outside result.0).asked p ≡ asked_in (P.outside ports).asked p) }
     ensures signs { (P.outside result.0).signs ≡ (P.outside ports).signs }
     ensures answers { (P.outside result.0).answers ≡ (P.outside ports).answers }
     ensures kept { F.files shelf.new ≡ F.files shelf.old }
@@ -105,6 +114,7 @@ pub(crate) fn with_picker<F: Shelf, K: Sink, P: Ports>(
                 alloc, shelf, sink, files, budget, point, ports, picker, meter,
             )
         }
-        Command::Check { .. } | Command::Alone { .. } => unreachable!(),
+        Command::Load { number } => (ports, load_written(alloc, sink, number, picker, meter)),
+        Command::Check { .. } | Command::Make { .. } | Command::Alone { .. } => unreachable!(),
     }
 }

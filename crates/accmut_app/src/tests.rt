@@ -122,7 +122,7 @@ fn expect(
 }
 
 /// Words that are no command, and some whose picker isn't there.
-const WRONG_USE: [&[&str]; 12] = [
+const WRONG_USE: [&[&str]; 13] = [
     &[],
     &["run", "m"],
     &["run", "m", "l", "t", "u"],
@@ -132,7 +132,8 @@ const WRONG_USE: [&[&str]; 12] = [
     &["check", "m", "l", "t"],
     &["alone", "m", "l", "t", "0", "1", "--order", "depth"],
     &["groups", "m", "l", "t", "1"],
-    &["make", "m"],
+    &["make", "m", "l"],
+    &["load", "01"],
     &["run", "m", "l", "t", "--order", "breadth"],
     &["groups", "m", "l", "t", "1", "1", "--order", "Depth"],
 ];

@@ -6,6 +6,7 @@ ghost use Rattle.am_base.specs.Cause.{Rose};
 ghost use Rattle.ports.specs.Asks.{asked_in};
 ghost use Rattle.command_words.specs.Words.{Text, texts_of};
 ghost use Rattle.command_words.specs.declared.command.Command.{Command};
+ghost use Rattle.command_words.specs.declared.command.Command.TheVariants.{Load};
 ghost use Rattle.command_plan.specs.Answer.{IsAnswer, Stay};
 ghost use Rattle.command_plan.specs.Ends.{Accepted, End, status_of};
 ghost use Rattle.command_plan.specs.Plan.{Counts};
@@ -23,17 +24,18 @@ use ports::Port;
 use std::alloc::Global;
 use std::mem;
 
-/// Carries out what the words after the program's name ask for: `run`, `check`, `alone` or
-/// `groups`, as `command_words::command_of` reads them. `Usage` comes iff they are no command, or
-/// the picker that the command wants isn't among `pickers`; then nothing is written and no count
-/// rises.
+/// Carries out what the words after the program's name ask for: `run`, `check`, `make`, `alone`,
+/// `groups` or `load`, as `command_words::command_of` reads them. `Usage` comes iff they are no
+/// command, or the picker that the command wants isn't among `pickers`; then nothing is written and
+/// no count rises.
 ///
 /// The files that the words name are read from the shelf in the order module, mutants, tests, each
 /// judged whole before the next is read; the first that can't be read (`ReadFault`), has more than
 /// `MAX_FILE_BYTES` bytes (`TooLong`) or isn't accepted decides, then a mutant or a test that is
-/// wanted and isn't there. The text of the command, or the line of a refusal, is built whole before
-/// the first write; where the sink fails (`WriteFault`) a proper prefix of it was written.
-/// `OutOfMemory` may be returned at any time, and nothing is written then.
+/// wanted and isn't there, then, for `make`, more than `MAX_LISTED_MUTANTS` mutants (`TooMany`). The
+/// text of the command, or the line of a refusal, is built whole before the first write; where the
+/// sink fails (`WriteFault`) a proper prefix of it was written. `OutOfMemory` may be returned at any
+/// time, and nothing is written then. `load` runs over files of its own, and without the ports.
 ///
 /// The first picker of the wanted name is used, and all of them are dropped. Of two ports with one
 /// name the first counts; the ports are given back in their order, with their signs and answers as
@@ -83,6 +85,13 @@ pub fn accmut<F: Shelf, K: Sink>(
         → ¬ (Rose (K.faults sink.old) (K.faults sink.new))
         → IsDueEnd held (plan_of (map (λ q. sign q) ports.old.items) (map (λ q. answers q) ports.old.items) c) (Accepted counts)
         → (result ≡ Status.Done) ⊎ (result ≡ Status.OutOfMemory) }
+
+    // `load` calls no shelf and asks no port.
+    ensures unread { (number : ℕ) → asked_for (map (λ q. named q) pickers.items) (texts_of words.now) ≡ Some (Load number) →
+        shelf.new ≡ shelf.old }
+    ensures untouched { (number : ℕ) → asked_for (map (λ q. named q) pickers.items) (texts_of words.now) ≡ Some (Load number) →
+        ((name : List ℕ) → F.faults shelf.new name ≡ F.faults shelf.old name)
+        × ((p : ℕ) → asked_in (map (λ q. asked q) ports.new.items) p ≡ asked_in (map (λ q. asked q) ports.old.items) p) }
 
     // Whatever it answers.
     ensures signs { map (λ q. sign q) ports.new.items ≡ map (λ q. sign q) ports.old.items }

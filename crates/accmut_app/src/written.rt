@@ -2,21 +2,26 @@
 
 ghost use Rattle.std.specs.Prelude.{◌≡◌, ℕ, ◌+◌, ◌≤◌, ◌<◌, ◌^◌, List, length, Some};
 ghost use Rattle.am_base.specs.Cause.{Rose};
+ghost use Rattle.am_base.specs.Files.{Files};
 ghost use Rattle.ports.specs.Asks.{answers_in, asked_in};
+ghost use Rattle.work_report.specs.declared.show.Show.TheVariants.{Report};
 ghost use Rattle.command_words.specs.Words.{IsBudget};
 ghost use Rattle.command_plan.specs.Answer.{IsAnswer};
 ghost use Rattle.commands.specs.Alone.{counts_of};
-ghost use Rattle.commands.specs.Plans.{alone_plan, check_plan, groups_plan, run_plan};
+ghost use Rattle.commands.specs.Plans.{alone_plan, check_plan, groups_plan, load_plan, make_plan, run_plan};
 ghost use Rattle.accmut_app.specs.Commands.{steps_of};
 
 use am_base::{DEFAULT_BUDGET, MAX_BUDGET, OutOfMemory, Shelf, Sink};
 use command_plan::{Status, write_found};
 use command_words::Files;
-use commands::{Point, Wanted, alone_found, check_found, groups_found, run_found};
+use commands::{
+    Point, Wanted, alone_found, check_found, groups_found, load_found, make_found, run_found,
+};
 use exec_core::Meter;
 use flat_machine::Ports;
 use picker::Picker;
 use std::alloc::Global;
+use work_report::Show;
 
 /// The budget of tests that state none, in steps.
 fn budget_or_default(budget: Option<u64>) -> u64
@@ -51,6 +56,31 @@ pub(crate) fn check_written<F: Shelf, K: Sink, P: Ports>(
         Err(OutOfMemory) => Status::OutOfMemory,
         Ok(signs) => {
             let found = check_found(alloc, shelf, name, signs.as_slice());
+            write_found(sink, found)
+        }
+    }
+}
+
+/// Carries out `make`.
+pub(crate) fn make_written<F: Shelf, K: Sink, P: Ports>(
+    alloc: Global,
+    shelf: &mut F,
+    sink: &mut K,
+    name: &str,
+    ports: &P,
+) -> Status
+    requires { length (P.outside ports.now).signs < 2 ^ 32 }
+    ensures answer { (steps : ℕ) → let counts = counts_of steps (asked_in (P.outside ports.now).asked) in
+        IsAnswer (F.files shelf.old) (λ name. Rose (F.faults shelf.old name) (F.faults shelf.new name)) (make_plan (P.outside ports.now).signs name.now)
+        counts counts (K.written sink.old) (K.written sink.new) (Rose (K.faults sink.old) (K.faults sink.new)) result }
+    ensures kept { F.files shelf.new ≡ F.files shelf.old }
+    ensures counts { (other : List ℕ) → F.faults shelf.old other ≤ F.faults shelf.new other }
+    ensures sink_counts { K.faults sink.old ≤ K.faults sink.new }
+{
+    match ports.signs(alloc) {
+        Err(OutOfMemory) => Status::OutOfMemory,
+        Ok(signs) => {
+            let found = make_found(alloc, shelf, name, signs.as_slice());
             write_found(sink, found)
         }
     }
@@ -121,7 +151,7 @@ pub(crate) fn run_written<F: Shelf, K: Sink, P: Ports>(
     ensures answer { IsAnswer (F.files shelf.old) (λ name. Rose (F.faults shelf.old name) (F.faults shelf.new name))
         (run_plan (P.outside ports).signs (answers_in (P.outside ports).answers)
         (steps_of budget) files.entry.module.now files.entry.mutants.now
-        files.entry.tests.now with_splits)
+        files.entry.tests.now (Report with_splits))
         (counts_of meter.old (asked_in (P.outside ports).asked))
         (counts_of meter.new (asked_in (P.outside result.0).asked))
         (K.written sink.old) (K.written sink.new) (Rose (K.faults sink.old) (K.faults sink.new)) result.1 }
@@ -141,7 +171,7 @@ pub(crate) fn run_written<F: Shelf, K: Sink, P: Ports>(
                 files.mutants,
                 files.tests,
                 budget_or_default(budget),
-                with_splits,
+                Show::Report { with_splits },
                 signs.as_slice(),
                 ports,
                 picker,
@@ -200,4 +230,22 @@ pub(crate) fn groups_written<F: Shelf, K: Sink, P: Ports>(
             (ports, write_found(sink, found))
         }
     }
+}
+
+/// Carries out `load`.
+pub(crate) fn load_written<K: Sink>(
+    alloc: Global,
+    sink: &mut K,
+    number: u64,
+    picker: &mut Box<dyn Picker>,
+    meter: &mut Meter,
+) -> Status
+    requires room { meter.old ≤ 2 ^ 62 }
+    ensures answer { (files : Files) (before after : List ℕ → ℕ) (asks : ℕ → ℕ) →
+        IsAnswer files (λ name. Rose (before name) (after name)) (load_plan number) (counts_of meter.old asks) (counts_of meter.new asks)
+        (K.written sink.old) (K.written sink.new) (Rose (K.faults sink.old) (K.faults sink.new)) result }
+    ensures sink_counts { K.faults sink.old ≤ K.faults sink.new }
+{
+    let found = load_found(alloc, number, picker, meter);
+    write_found(sink, found)
 }

@@ -9,9 +9,10 @@ pub fn meaning(status: Status) -> Option<&'static str> {
         Status::Usage => Some(
             "the words are no command; these are: \
             run MODULE MUTANTS TESTS [--budget N] [--order depth|breadth|smallest] [--splits], \
-            check MODULE, \
+            check MODULE, make MODULE, \
             alone MODULE MUTANTS TESTS MUTANT TEST [--budget N], \
-            groups MODULE MUTANTS TESTS TEST STEP [--budget N] [--order depth|breadth|smallest]",
+            groups MODULE MUTANTS TESTS TEST STEP [--budget N] [--order depth|breadth|smallest], \
+            load N",
         ),
         Status::ModuleRefused => Some("the module is refused; standard output has the line"),
         Status::MutantsRefused => {

@@ -1,6 +1,8 @@
 //! A command over files in memory, with the pickers and the ports of the program.
 
+mod load;
 mod long;
+mod made;
 mod order;
 mod rows;
 mod rules;

@@ -2,7 +2,7 @@
 use Rattle.std.proofs.Common.{◌≡◌, ℕ, List, true, false, Option, Some, None, IsSome, subst, ◌∙◌, inl, inr}
 use Rattle.std.specs.List.{Contains}
 use Rattle.command_plan.specs.declared.status.Input.{Input}
-use Rattle.command_plan.specs.Plan.{Plan, Read, Want, Bound, Write, Reads, IsTooLong}
+use Rattle.command_plan.specs.Plan.{Plan, Read, Want, Bound, Over, Write, Reads, IsTooLong}
 use Rattle.command_plan.specs.Ends.{End, Ends, StopsAt, Accepted, Text, Refused, Long, Fault, Many}
 use Rattle.command_plan.specs.Sharp.{AreNames}
 
@@ -38,4 +38,5 @@ module _ (held other : List ℕ → Option (List ℕ)) (Faulty Also : List ℕ �
   ends_agreed (Want input line A (Some x) next) end has h = ends_agreed (next x) end has h
   ends_agreed (Bound false next) end has h = h
   ends_agreed (Bound true next) end has h = ends_agreed next end has h
+  ends_agreed (Over own next) end has h = h
   ends_agreed (Write due rise) end has h = h

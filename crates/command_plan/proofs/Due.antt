@@ -8,7 +8,7 @@ use Rattle.command_plan.specs.declared.status.Input.TheVariants as input
 use Rattle.command_plan.specs.declared.status.Status.{Status}
 use Rattle.command_plan.specs.declared.status.Status.TheVariants as status
 use Rattle.command_plan.specs.Status.{refused}
-use Rattle.command_plan.specs.Plan.{Counts, Plan, Read, Want, Bound, Write}
+use Rattle.command_plan.specs.Plan.{Counts, Plan, Read, Want, Bound, Over, Write}
 use Rattle.command_plan.specs.Ends.{End, Ends, StopsAt, Accepted, Text, Refused, Long, Fault, Many, status_of}
 use Rattle.command_plan.specs.Answer.{IsAnswer}
 use Rattle.command_plan.specs.Sharp.{IsSharp, IsSameEnd, IsDueEnd, AreNames}
@@ -38,6 +38,7 @@ ends_named files Faulty names (Want input line A None next) end has h = h
 ends_named files Faulty names (Want input line A (Some x) next) end has h = ends_named files Faulty names (next x) end has h
 ends_named files Faulty names (Bound false next) end has h = h
 ends_named files Faulty names (Bound true next) end has h = ends_named files Faulty names next end has h
+ends_named files Faulty names (Over own next) end has h = h
 ends_named files Faulty names (Write due rise) end has h = h
 
 same_status : (end other : End) → IsSameEnd end other → status_of end ≡ status_of other

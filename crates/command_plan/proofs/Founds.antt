@@ -4,7 +4,7 @@ use Rattle.am_base.specs.Files.{Files}
 use Rattle.command_plan.specs.declared.status.Input.{Input}
 use Rattle.command_plan.specs.declared.stop.Stop.{Stop}
 use Rattle.command_plan.specs.declared.stop.Stop.TheVariants as stop
-use Rattle.command_plan.specs.Plan.{Counts, no_counts, Plan, Read, Want, Bound, Write, Reads}
+use Rattle.command_plan.specs.Plan.{Counts, no_counts, Plan, Read, Want, Bound, Over, Write, Reads}
 use Rattle.command_plan.specs.Ends.{End, Ends, StopsAt, Accepted, Text, Refused, Long, Fault, Many}
 use Rattle.command_plan.specs.Answer.{Found, RunsOut, Fails, IsNotRead, Says, refusal, Stay, RiseBy}
 
@@ -52,6 +52,7 @@ ends_later files Faulty Later to (Want input line A None next) end h = h
 ends_later files Faulty Later to (Want input line A (Some x) next) end h = ends_later files Faulty Later to (next x) end h
 ends_later files Faulty Later to (Bound false next) end h = h
 ends_later files Faulty Later to (Bound true next) end h = ends_later files Faulty Later to next end h
+ends_later files Faulty Later to (Over own next) end h = h
 ends_later files Faulty Later to (Write due rise) end h = h
 
 -- ---- steps of a plan

@@ -2,7 +2,7 @@
 use Rattle.std.proofs.Common.{◌≡◌, ℕ, ◌≤◌, List, length, true, false, Option, Some, None, IsSome, refl, subst, sym, ◌∙◌, inl, inr, arith}
 use Rattle.am_base.specs.declared.limits.TheConstants.{MAX_FILE_BYTES}
 use Rattle.command_plan.specs.declared.status.Input.{Input}
-use Rattle.command_plan.specs.Plan.{Counts, Plan, Read, Want, Bound, Write, Reads, IsTooLong}
+use Rattle.command_plan.specs.Plan.{Counts, Plan, Read, Want, Bound, Over, Write, Reads, IsTooLong}
 use Rattle.command_plan.specs.Ends.{End, Ends, StopsAt, Comes, Accepted, Text, Refused, Long, Fault, Many}
 use Rattle.command_plan.specs.Sharp.{IsSharp, IsSameEnd}
 
@@ -126,4 +126,6 @@ one_end held Faulty Also missing also (Want input line A (Some x) next) sharp en
 one_end held Faulty Also missing also (Bound false next) sharp end other h k = same_many end other h k
 one_end held Faulty Also missing also (Bound true next) sharp end other h k =
     one_end held Faulty Also missing also next sharp end other h k
+one_end held Faulty Also missing also (Over own next) sharp end other h k =
+    one_end own (λ name. ⊥) (λ name. ⊥) (λ name f. absurd f) (λ name f. absurd f) next sharp end other h k
 one_end held Faulty Also missing also (Write due rise) sharp end other h k = one_coming held Faulty Also missing also due rise end other h k

@@ -5,7 +5,7 @@ use Rattle.command_plan.specs.declared.status.Input.{Input}
 use Rattle.command_plan.specs.declared.status.Status.{Status}
 use Rattle.command_plan.specs.declared.status.Status.TheVariants as status
 use Rattle.command_plan.specs.Status.{refused}
-use Rattle.command_plan.specs.Plan.{Counts, Plan, Read, Want, Bound, Write, Reads, IsTooLong}
+use Rattle.command_plan.specs.Plan.{Counts, Plan, Read, Want, Bound, Over, Write, Reads, IsTooLong}
 
 -- Accepted: every file is accepted, everything wanted is there, and the counts are to rise by these. Text: and this text is due. Refused: an input is
 -- refused with a line. Long: a file is too long. Fault: a file couldn't be read. Many: what is due would have more parts than it may have.
@@ -43,6 +43,7 @@ Ends files Faulty (Want input line A None next) end = end ≡ Refused input line
 Ends files Faulty (Want input line A (Some x) next) end = Ends files Faulty (next x) end
 Ends files Faulty (Bound false next) end = end ≡ Many
 Ends files Faulty (Bound true next) end = Ends files Faulty next end
+Ends files Faulty (Over own next) end = Ends (Some own) (λ name. ⊥) next end
 Ends files Faulty (Write due rise) end = Comes due rise end
 
 -- the status of an end

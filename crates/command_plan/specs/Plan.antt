@@ -14,11 +14,13 @@ no_counts = record { steps = 0; asks = λ port. 0 }
 
 -- What a command does. Read: the file of this name is read. It is refused with a line, as this input, or it gives something, and the plan goes on
 -- with that. Want: something is looked for in what was read. Where it isn't there, this input is refused with this line. Bound: what is due has at most as
--- many parts as it may have, and the plan goes on, or it has more. Write: `due` says which text is due, and `rise` by how much the counts rise.
+-- many parts as it may have, and the plan goes on, or it has more. Over: the plan goes on over these files alone, each of which can be read. Write: `due`
+-- says which text is due, and `rise` by how much the counts rise.
 pub data Plan : Type 1 where
   Read : (name : List ℕ) (input : Input) (refuses : List ℕ → List ℕ → Type 0) (A : Type 0) (accepts : List ℕ → A → Type 0) (next : A → Plan) → Plan
   Want : (input : Input) (line : List ℕ) (A : Type 0) (wanted : Option A) (next : A → Plan) → Plan
   Bound : (within : Bool) (next : Plan) → Plan
+  Over : (own : List ℕ → Option (List ℕ)) (next : Plan) → Plan
   Write : (due : List ℕ → Type 0) (rise : Counts → Type 0) → Plan
 
 -- ---- files

@@ -1,7 +1,7 @@
 -- Plans that end in one way.
 use Rattle.std.specs.Prelude.{◌≡◌, ℕ, List, true, false, Option, Some, None}
 use Rattle.std.specs.List.{Contains}
-use Rattle.command_plan.specs.Plan.{Plan, Read, Want, Bound, Write}
+use Rattle.command_plan.specs.Plan.{Plan, Read, Want, Bound, Over, Write}
 use Rattle.command_plan.specs.Ends.{End, Ends, Accepted, Text, Refused, Long, Fault, Many}
 
 -- no file is refused with two lines, refused and accepted, or accepted as two things
@@ -15,6 +15,7 @@ IsSharp (Want input line A None next) = Unit {0}
 IsSharp (Want input line A (Some x) next) = IsSharp (next x)
 IsSharp (Bound false next) = Unit {0}
 IsSharp (Bound true next) = IsSharp next
+IsSharp (Over own next) = IsSharp next
 IsSharp (Write due rise) = Unit {0}
 
 -- the same end, up to the text and the counts
@@ -29,13 +30,14 @@ IsSameEnd Fault Fault = Unit {0}
 IsSameEnd Many Many = Unit {0}
 IsSameEnd _ _ = ⊥
 
--- the plan reads files of these names alone
+-- the plan reads files of these names alone, but for files of its own
 abbrev pub AreNames : List (List ℕ) → Plan → Type 0
 AreNames names (Read name input refuses A accepts next) = Contains names name × ((x : A) → AreNames names (next x))
 AreNames names (Want input line A None next) = Unit {0}
 AreNames names (Want input line A (Some x) next) = AreNames names (next x)
 AreNames names (Bound false next) = Unit {0}
 AreNames names (Bound true next) = AreNames names next
+AreNames names (Over own next) = Unit {0}
 AreNames names (Write due rise) = Unit {0}
 
 -- How a plan ends by the bytes of the files alone: a file that isn't held can't be read, and each other can.

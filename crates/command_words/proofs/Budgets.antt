@@ -5,13 +5,13 @@ use Rattle.std.specs.Str.{bytes_eq}
 use Rattle.std.proofs.lemmas.Bool.{and_parts, leb-true}
 use Rattle.am_base.specs.declared.limits.TheConstants.{MAX_BUDGET}
 use Rattle.command_words.specs.declared.command.Command.{Command}
-use Rattle.command_words.specs.declared.command.Command.TheVariants.{Run, Check, Alone, Groups}
+use Rattle.command_words.specs.declared.command.Command.TheVariants.{Run, Check, Make, Alone, Groups, Load}
 use Rattle.command_words.specs.declared.command.Files.{Files}
 use Rattle.command_words.specs.declared.options.Allowed.{Allowed}
 use Rattle.command_words.specs.declared.options.Options.{Options}
 use Rattle.command_words.specs.declared.options.Given.{Given}
 use Rattle.command_words.specs.declared.options.Given.TheVariants.{Budget, Order, Splits}
-use Rattle.command_words.specs.Words.{Text, IsBudget, budget_of, number_in, is_budget, budget_in, valued, and_more, given_by, are_allowed, with_option, options_among, allowed_among, options_in, may_stand, files_named, run_with, run_of, check_of, alone_with, alone_of, groups_with, groups_of, command_of}
+use Rattle.command_words.specs.Words.{Text, IsBudget, budget_of, number_in, is_budget, budget_in, valued, and_more, given_by, are_allowed, with_option, options_among, allowed_among, options_in, may_stand, files_named, run_with, run_of, only_word, check_of, make_of, alone_with, alone_of, groups_with, groups_of, number_among, load_of, command_of}
 
 -- ---- what holds of a thing if there is one
 
@@ -27,6 +27,13 @@ mapped : {A B : Type 0} (f : A → B) (Was : A → Type 0) (Is : B → Type 0) �
     → Each Is (option_map f o)
 mapped f Was Is to None h = tt
 mapped f Was Is to (Some x) h = to x h
+
+abbrev Any : Text → Type 0
+Any word = Unit {0}
+
+any : (o : Option Text) → Each Any o
+any None = tt
+any (Some word) = tt
 
 -- ---- options
 
@@ -101,9 +108,10 @@ run_is (first ∷ []) = tt
 run_is (first ∷ second ∷ []) = tt
 
 check_is : (words : List Text) → Each IsFine (check_of words)
-check_is [] = tt
-check_is (first ∷ []) = tt
-check_is (first ∷ second ∷ more) = tt
+check_is words = mapped Check Any IsFine (λ name h. h) (only_word words) (any (only_word words))
+
+make_is : (words : List Text) → Each IsFine (make_of words)
+make_is words = mapped Make Any IsFine (λ name h. h) (only_word words) (any (only_word words))
 
 alone_with_is : (files : Files Text) (mutant test : Option ℕ) (options : Option (Options Text)) → Each AreFineOptions options
     → Each IsFine (alone_with files mutant test options)
@@ -139,12 +147,21 @@ groups_is (a ∷ b ∷ []) = tt
 groups_is (a ∷ b ∷ c ∷ []) = tt
 groups_is (a ∷ b ∷ c ∷ d ∷ []) = tt
 
+load_with_is : (number : Option ℕ) → Each IsFine (option_map Load number)
+load_with_is None = tt
+load_with_is (Some n) = tt
+
+load_is : (words : List Text) → Each IsFine (load_of words)
+load_is words = load_with_is (number_among (only_word words))
+
 command_is : (words : List Text) → Each IsFine (command_of words)
 command_is [] = tt
 command_is (name ∷ words) =
-    let groups = either (Each IsFine) (bytes_eq name (codes "groups")) (groups_of words) None (groups_is words) tt in
+    let load = either (Each IsFine) (bytes_eq name (codes "load")) (load_of words) None (load_is words) tt in
+    let groups = either (Each IsFine) (bytes_eq name (codes "groups")) (groups_of words) _ (groups_is words) load in
     let alone = either (Each IsFine) (bytes_eq name (codes "alone")) (alone_of words) _ (alone_is words) groups in
-    let check = either (Each IsFine) (bytes_eq name (codes "check")) (check_of words) _ (check_is words) alone in
+    let make = either (Each IsFine) (bytes_eq name (codes "make")) (make_of words) _ (make_is words) alone in
+    let check = either (Each IsFine) (bytes_eq name (codes "check")) (check_of words) _ (check_is words) make in
     either (Each IsFine) (bytes_eq name (codes "run")) (run_of words) _ (run_is words) check
 
 pub budget_within : (words : List Text) (command : Command Text) (n : ℕ) → command_of words ≡ Some command → budget_of command ≡ Some n → IsBudget n

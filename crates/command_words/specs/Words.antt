@@ -3,10 +3,12 @@
 --
 --     run MODULE MUTANTS TESTS          --budget N, --order NAME, --splits
 --     check MODULE
+--     make MODULE
 --     alone MODULE MUTANTS TESTS M T    --budget N
 --     groups MODULE MUTANTS TESTS T N   --budget N, --order NAME
+--     load N
 --
--- No other words are a command. `make` and `load` aren't commands of this program yet.
+-- No other words are a command.
 use Rattle.std.specs.Prelude.{◌≡◌, ℕ, ◌≤◌, List, [], ◌∷◌, Bool, true, false, not, ◌&&◌, ◌==◌, nat_le}
 use Rattle.std.specs.Prelude.{if◌then◌else◌, Option, Some, None, codes, length, map, count_by, unwrap_or, String, string_bytes}
 use Rattle.std.specs.Option.{option_map, option_copied}
@@ -17,7 +19,7 @@ use denote.Ref.{Bor}
 use Rattle.am_base.specs.declared.limits.TheConstants.{MAX_BUDGET}
 use Rattle.ir_tokens.specs.Tokens.{is_digits}
 use Rattle.command_words.specs.declared.command.Command.{Command}
-use Rattle.command_words.specs.declared.command.Command.TheVariants.{Run, Check, Alone, Groups}
+use Rattle.command_words.specs.declared.command.Command.TheVariants.{Run, Check, Make, Alone, Groups, Load}
 use Rattle.command_words.specs.declared.command.Files.{Files}
 use Rattle.command_words.specs.declared.options.Allowed.{Allowed}
 use Rattle.command_words.specs.declared.options.Options.{Options}
@@ -144,9 +146,16 @@ abbrev pub run_of : List Text → Option (Command Text)
 run_of (first ∷ second ∷ third ∷ options) = option_map (run_with (files_named first second third)) (options_in (may_stand true true true) options)
 run_of _ = None
 
+-- the one word
+abbrev pub only_word : List Text → Option Text
+only_word (first ∷ []) = Some first
+only_word _ = None
+
 abbrev pub check_of : List Text → Option (Command Text)
-check_of (first ∷ []) = Some (Check first)
-check_of _ = None
+check_of words = option_map Check (only_word words)
+
+abbrev pub make_of : List Text → Option (Command Text)
+make_of words = option_map Make (only_word words)
 
 abbrev pub alone_with : Files Text → Option ℕ → Option ℕ → Option (Options Text) → Option (Command Text)
 alone_with files (Some mutant) (Some test) (Some options) = Some (Alone files mutant test options.budget)
@@ -166,12 +175,22 @@ groups_of (first ∷ second ∷ third ∷ test ∷ step ∷ options) =
     groups_with (files_named first second third) (number_in test) (number_in step) (options_in (may_stand true true false) options)
 groups_of _ = None
 
+-- the number that a word is, if there is one
+abbrev pub number_among : Option Text → Option ℕ
+number_among None = None
+number_among (Some word) = number_in word
+
+abbrev pub load_of : List Text → Option (Command Text)
+load_of words = option_map Load (number_among (only_word words))
+
 -- the budget that a command states for the tests that state none
 abbrev pub budget_of : Command Text → Option ℕ
 budget_of (Run files budget order splits) = budget
 budget_of (Check name) = None
+budget_of (Make name) = None
 budget_of (Alone files mutant test budget) = budget
 budget_of (Groups files test step budget order) = budget
+budget_of (Load number) = None
 
 abbrev pub IsBudget : ℕ → Type 0
 IsBudget n = (1 ≤ n) × (n ≤ MAX_BUDGET)
@@ -182,8 +201,10 @@ command_of [] = None
 command_of (name ∷ words) =
     if bytes_eq name (codes "run") then run_of words else
     if bytes_eq name (codes "check") then check_of words else
+    if bytes_eq name (codes "make") then make_of words else
     if bytes_eq name (codes "alone") then alone_of words else
-    if bytes_eq name (codes "groups") then groups_of words else None
+    if bytes_eq name (codes "groups") then groups_of words else
+    if bytes_eq name (codes "load") then load_of words else None
 
 -- ---- pickers
 
@@ -194,8 +215,10 @@ order_or_depth order = unwrap_or order (codes "depth")
 abbrev pub wanted : Command Text → Option Text
 wanted (Run files budget order splits) = Some (order_or_depth order)
 wanted (Check name) = None
+wanted (Make name) = None
 wanted (Alone files mutant test budget) = None
 wanted (Groups files test step budget order) = Some (order_or_depth order)
+wanted (Load number) = Some (codes "depth")
 
 -- ---- the same with the bytes of names
 
@@ -213,5 +236,7 @@ options_meant options = record { budget = options.budget; order = option_copied 
 abbrev pub meant : Command (Bor Text) → Command Text
 meant (Run files budget order splits) = Run (files_meant files) budget (option_copied order) splits
 meant (Check name) = Check name.now
+meant (Make name) = Make name.now
 meant (Alone files mutant test budget) = Alone (files_meant files) mutant test budget
 meant (Groups files test step budget order) = Groups (files_meant files) test step budget (option_copied order)
+meant (Load number) = Load number

@@ -16,7 +16,7 @@ pub struct Files<N> {
 ///
 /// A budget is from 1 to `MAX_BUDGET`, and holds for the tests that state none. A mutant, a test
 /// and a step are numbers below 10^10, whether or not there is one: mutant 0 is the unchanged
-/// program, and tests count from 1.
+/// program, and tests count from 1. The number of a workload is below 10^10 too.
 #[derive(Clone, Copy)]
 pub enum Command<N> {
     /// The verdicts of all mutants on all tests, with the splits where they are asked for.
@@ -28,6 +28,10 @@ pub enum Command<N> {
     },
     /// Whether a module is accepted.
     Check {
+        module: N,
+    },
+    /// The list of the mutants that the makers make of a module.
+    Make {
         module: N,
     },
     /// The run of one mutant on one test by itself.
@@ -44,6 +48,10 @@ pub enum Command<N> {
         step: u64,
         budget: Option<u64>,
         order: Option<N>,
+    },
+    /// A run over the workload that is built in, of this number.
+    Load {
+        number: u64,
     },
 }
 
@@ -64,6 +72,7 @@ pub fn wanted<'a>(command: &Command<&'a str>) -> Option<&'a str>
     match command {
         Command::Run { order, .. } => Some(order_or_depth(*order)),
         Command::Groups { order, .. } => Some(order_or_depth(*order)),
-        Command::Check { .. } | Command::Alone { .. } => None,
+        Command::Load { .. } => Some("depth"),
+        Command::Check { .. } | Command::Make { .. } | Command::Alone { .. } => None,
     }
 }

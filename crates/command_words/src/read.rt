@@ -1,8 +1,8 @@
 //! Which command words are.
 
 ghost use Rattle.std.specs.Prelude.{◌≡◌, ◌<◌, ◌∷◌, length, MatchOption};
-ghost use Rattle.std.specs.Option.{option_map};
-ghost use Rattle.command_words.specs.Words.{texts_of, meant};
+ghost use Rattle.std.specs.Option.{option_copied, option_map};
+ghost use Rattle.command_words.specs.Words.{only_word, texts_of, meant};
 ghost use Rattle.command_words.specs.Words as spec;
 
 use crate::command::{Command, Files};
@@ -44,15 +44,26 @@ fn run_of<'a>(words: &'a [String]) -> Option<Command<&'a str>>
     })
 }
 
+/// Returns the one word; `None` iff there are none or more.
+fn only_word<'a>(words: &'a [String]) -> Option<&'a str>
+    ensures { option_copied result ≡ only_word (texts_of words.now) }
+{
+    let (word, words) = first_of(words)?;
+    if words.is_empty() { Some(word) } else { None }
+}
+
 fn check_of<'a>(words: &'a [String]) -> Option<Command<&'a str>>
     ensures { option_map meant result ≡ spec.check_of (texts_of words.now) }
 {
-    let (module, words) = first_of(words)?;
-    if words.is_empty() {
-        Some(Command::Check { module })
-    } else {
-        None
-    }
+    let module = only_word(words)?;
+    Some(Command::Check { module })
+}
+
+fn make_of<'a>(words: &'a [String]) -> Option<Command<&'a str>>
+    ensures { option_map meant result ≡ spec.make_of (texts_of words.now) }
+{
+    let module = only_word(words)?;
+    Some(Command::Make { module })
 }
 
 fn alone_of<'a>(words: &'a [String]) -> Option<Command<&'a str>>
@@ -100,6 +111,14 @@ fn groups_of<'a>(words: &'a [String]) -> Option<Command<&'a str>>
     })
 }
 
+fn load_of<'a>(words: &'a [String]) -> Option<Command<&'a str>>
+    ensures { option_map meant result ≡ spec.load_of (texts_of words.now) }
+{
+    let word = only_word(words)?;
+    let number = number_in(word)?;
+    Some(Command::Load { number })
+}
+
 /// Returns the command that the words after the program's name are; `None` iff they are none. No
 /// memory is taken.
 ///
@@ -107,8 +126,10 @@ fn groups_of<'a>(words: &'a [String]) -> Option<Command<&'a str>>
 /// |---|---|
 /// | `run MODULE MUTANTS TESTS` | `--budget N`, `--order NAME`, `--splits` |
 /// | `check MODULE` | |
+/// | `make MODULE` | |
 /// | `alone MODULE MUTANTS TESTS M T` | `--budget N` |
 /// | `groups MODULE MUTANTS TESTS T N` | `--budget N`, `--order NAME` |
+/// | `load N` | |
 ///
 /// A number is 1 to 10 digits without a leading zero, or `0`; a budget is one from 1 to
 /// `MAX_BUDGET`. Names are words of any spelling. The options stand in any order, each at most once.
@@ -120,10 +141,14 @@ pub fn command_of<'a>(words: &'a [String]) -> Option<Command<&'a str>>
         run_of(words)
     } else if name == "check" {
         check_of(words)
+    } else if name == "make" {
+        make_of(words)
     } else if name == "alone" {
         alone_of(words)
     } else if name == "groups" {
         groups_of(words)
+    } else if name == "load" {
+        load_of(words)
     } else {
         None
     }

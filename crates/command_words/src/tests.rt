@@ -21,6 +21,7 @@ fn told(alloc: Global, line: &str) -> Result<(char, u64, u64, u64, bool), AllocE
         None => ('-', 0, 0, 0, false),
         Some(Command::Run { budget, splits, .. }) => ('r', budget.unwrap_or(0), 0, 0, splits),
         Some(Command::Check { .. }) => ('c', 0, 0, 0, false),
+        Some(Command::Make { .. }) => ('m', 0, 0, 0, false),
         Some(
             Command::Alone {
                 mutant,
@@ -37,6 +38,7 @@ fn told(alloc: Global, line: &str) -> Result<(char, u64, u64, u64, bool), AllocE
                 ..
             },
         ) => ('g', budget.unwrap_or(0), test, step, false),
+        Some(Command::Load { number }) => ('l', 0, number, 0, false),
     })
 }
 
@@ -51,6 +53,7 @@ fn lines_that_are_commands(rt: HostRuntime) -> Result<(), Fail> {
             ('r', 10_000_000, 0, 0, true),
         ),
         ("check a", ('c', 0, 0, 0, false)),
+        ("make make", ('m', 0, 0, 0, false)),
         ("alone a b c 0 1", ('a', 0, 0, 1, false)),
         (
             "alone a b c 9999999999 0 --budget 1",
@@ -60,6 +63,8 @@ fn lines_that_are_commands(rt: HostRuntime) -> Result<(), Fail> {
             "groups a b c 2 10 --order y --budget 70",
             ('g', 70, 2, 10, false),
         ),
+        ("load 0", ('l', 0, 0, 0, false)),
+        ("load 9999999999", ('l', 0, 9_999_999_999, 0, false)),
     ];
     for (line, want) in lines {
         let found = told(rt.alloc(), line)?;
@@ -90,8 +95,14 @@ fn lines_that_are_none(rt: HostRuntime) -> Result<(), Fail> {
         "alone a b c -1 1",
         "alone a b c 1 1 --order depth",
         "groups a b c 1 1 --splits",
-        "make a",
-        "load 3",
+        "make",
+        "make a b",
+        "make a --splits",
+        "load",
+        "load 03",
+        "load 10000000000",
+        "load 3 4",
+        "load 3 --order depth",
     ];
     for line in lines {
         let found = told(rt.alloc(), line)?;
@@ -118,6 +129,8 @@ fn pickers_that_are_wanted(rt: HostRuntime) -> Result<(), Fail> {
         ("groups a b c 1 1 --order --order", "--order"),
         ("alone a b c 1 1", "-"),
         ("check a", "-"),
+        ("make a", "-"),
+        ("load 0", "depth"),
     ];
     for (line, want) in lines {
         let found = picker_of(rt.alloc(), line)?;

@@ -10,3 +10,5 @@ pub mod OneText
 pub mod OneReport
 pub mod ClassLemmas
 pub mod OneGroups
+mod MakeLemmas
+mod LoadLemmas

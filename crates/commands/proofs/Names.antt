@@ -1,5 +1,5 @@
 -- Each command reads the files of its names alone.
-use Rattle.std.proofs.Common.{ℕ, Bool, List, [], ◌∷◌, Option, Some, None}
+use Rattle.std.proofs.Common.{ℕ, Bool, true, false, List, [], ◌∷◌, Option, Some, None}
 use Rattle.std.specs.List.{Contains}
 use Rattle.code_form.specs.declared.sign.PortSign.{PortSign}
 use Rattle.traces.proofs.Lists.{contains_here, contains_there}
@@ -9,19 +9,27 @@ use Rattle.mutant_records.specs.declared.list.Made.{Made}
 use Rattle.test_suite.specs.declared.suite.Suite.{Suite}
 use Rattle.test_suite.specs.declared.suite.Test.{Test}
 use Rattle.refused_lines.specs.Refusals.{no_mutant_line, no_test_line}
+use Rattle.work_report.specs.declared.show.Show.{Show}
 use Rattle.command_plan.specs.declared.status.Input.{Input}
 use Rattle.command_plan.specs.declared.status.Input.TheVariants as input
-use Rattle.command_plan.specs.Plan.{Plan, Want, Write}
+use Rattle.command_plan.specs.Plan.{Plan, Want, Bound, Write}
 use Rattle.command_plan.specs.Sharp.{AreNames}
 use Rattle.command_files.specs.declared.module.Loaded.{Loaded}
 use Rattle.commands.specs.declared.wanted.Point.{Point}
 use Rattle.commands.specs.declared.wanted.Wanted.{Wanted}
 use Rattle.commands.specs.Alone.{IsRunText, IsRunRise, mutant_numbered, test_numbered}
 use Rattle.commands.specs.Groups.{AreGroups, IsGroupsRise}
-use Rattle.commands.specs.Plans.{check_plan, files_plan, run_plan, run_end, alone_plan, alone_end, groups_plan, groups_end}
+use Rattle.commands.specs.Plans.{check_plan, make_plan, files_plan, run_plan, run_end, alone_plan, alone_end, groups_plan, groups_end, load_plan}
 
 pub check_named : (signs : List PortSign) (name : Text) → AreNames (name ∷ []) (check_plan signs name)
 check_named signs name = (contains_here name [], λ m. tt)
+
+bound_named : (names : List Text) (within : Bool) (next : Plan) → AreNames names next → AreNames names (Bound within next)
+bound_named names false next h = tt
+bound_named names true next h = h
+
+pub make_named : (signs : List PortSign) (name : Text) → AreNames (name ∷ []) (make_plan signs name)
+make_named signs name = (contains_here name [], λ m. bound_named _ _ _ tt)
 
 abbrev names_of : Text → Text → Text → List Text
 names_of name mutants tests = name ∷ mutants ∷ tests ∷ []
@@ -55,10 +63,10 @@ groups_end_named names answers p m all suite =
     wanted_named names input.Tests (no_test_line p.test) Test (test_numbered suite.tests p.test)
     (λ t. Write (AreGroups m.code all answers p.step t) (IsGroupsRise m.code all answers p.step t)) (λ t. tt)
 
-pub run_named : (signs : List PortSign) (answers : Answers) (budget : ℕ) (name mutants tests : Text) (with_splits : Bool)
-    → AreNames (name ∷ mutants ∷ tests ∷ []) (run_plan signs answers budget name mutants tests with_splits)
-run_named signs answers budget name mutants tests with_splits =
-    files_named signs budget name mutants tests (run_end answers with_splits) (λ m all suite. tt)
+pub run_named : (signs : List PortSign) (answers : Answers) (budget : ℕ) (name mutants tests : Text) (show : Show)
+    → AreNames (name ∷ mutants ∷ tests ∷ []) (run_plan signs answers budget name mutants tests show)
+run_named signs answers budget name mutants tests show =
+    files_named signs budget name mutants tests (run_end answers show) (λ m all suite. tt)
 
 pub alone_named : (signs : List PortSign) (answers : Answers) (budget : ℕ) (name mutants tests : Text) (w : Wanted)
     → AreNames (name ∷ mutants ∷ tests ∷ []) (alone_plan signs answers budget name mutants tests w)
@@ -69,3 +77,6 @@ pub groups_named : (signs : List PortSign) (answers : Answers) (budget : ℕ) (n
     → AreNames (name ∷ mutants ∷ tests ∷ []) (groups_plan signs answers budget name mutants tests p)
 groups_named signs answers budget name mutants tests p =
     files_named signs budget name mutants tests (groups_end answers p) (groups_end_named (name ∷ mutants ∷ tests ∷ []) answers p)
+
+pub load_named : (number : ℕ) → AreNames [] (load_plan number)
+load_named number = tt

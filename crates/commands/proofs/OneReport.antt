@@ -1,5 +1,5 @@
 -- The report of a suite is one text.
-use Rattle.std.proofs.Common.{◌≡◌, ◌≢◌, ℕ, Bool, List, [], ◌∷◌, length, map, Option, Some, None, if◌then◌else◌, unwrap_or, slice_index_or, refl, sym, ap, subst, ◌∙◌, arith}
+use Rattle.std.proofs.Common.{◌≡◌, ◌≢◌, ℕ, List, [], ◌∷◌, length, map, unwrap_or, slice_index_or, refl, sym, ap, subst, ◌∙◌, arith}
 use Rattle.std.proofs.Math.Path.{fun_ext}
 use Rattle.std.proofs.lemmas.List.{ext_get_or}
 use Rattle.std.specs.List.{sum_by}
@@ -23,7 +23,8 @@ use Rattle.kill_matrix.specs.Score.{Letters}
 use Rattle.kill_matrix.specs.Verdict.{IsBudgetOrTrap, IsTrapped, IsVerdict}
 use Rattle.kill_matrix.specs.declared.letter.Letter.{Letter}
 use Rattle.kill_matrix.specs.declared.letter.Letter.TheVariants.{Same, Budget, Trap, Return, Output}
-use Rattle.work_report.specs.Report.{report_text}
+use Rattle.work_report.specs.Report.{shown_text}
+use Rattle.work_report.specs.declared.show.Show.{Show}
 use Rattle.suite_analysis.specs.Runs.{AreVerdicts, AreLetters, work_of, splits_of, works_of, lists_of, suite_steps, suite_asks, IsReport}
 use Rattle.command_plan.specs.Plan.{Counts}
 use Rattle.commands.specs.Alone.{counts_of, trial_on}
@@ -107,13 +108,13 @@ module _ (code : Code) (answers : Answers) (t u : Table) (alike : Alike t u) whe
       let rows : grid.tests ≡ other.tests = rows-one suite.tests grid.tests other.tests h g in
       ap (λ n. grid_by n grid.tests) count ∙ ap (λ rs. grid_by other.mutants rs) rows
 
-  reports-one : (with_splits : Bool) (suite : Suite) (text other : List ℕ) → IsReport code t answers with_splits suite text
-      → IsReport code u answers with_splits suite other → text ≡ other
-  reports-one with_splits suite text other h k =
+  reports-one : (show : Show) (suite : Suite) (text other : List ℕ) → IsReport code t answers show suite text
+      → IsReport code u answers show suite other → text ≡ other
+  reports-one show suite text other h k =
       let grids = grids-one suite h.grid k.grid h.mutants k.mutants h.letters k.letters in
       let by : Letters → (Test → Trial State Change) → List ℕ =
-      (λ grid trial. report_text suite grid (map (λ test. work_of (trial test)) suite.tests)
-      (if with_splits then Some (map (λ test. splits_of (trial test)) suite.tests) else None)) in
+      (λ grid trial. shown_text show suite grid (map (λ test. work_of (trial test)) suite.tests)
+      (map (λ test. splits_of (trial test)) suite.tests)) in
       h.is_text ∙ ap (λ grid. by grid (trial_on code t answers)) grids ∙ ap (by k.grid) one ∙ sym k.is_text
 
   rises-one : (tests : List Test) → counts_of (suite_steps code t answers tests) (suite_asks code t answers tests)
@@ -122,10 +123,10 @@ module _ (code : Code) (answers : Answers) (t u : Table) (alike : Alike t u) whe
       ap (λ (trial : Test → Trial State Change). counts_of (sum_by (λ test. steps (trial test)) tests) (λ p. sum_by (λ test. asks (trial test) p) tests)) one
 
 module _ (code : Code) (all : List Made) (answers : Answers) (suite : Suite) where
-  pub report-one : (with_splits : Bool) (text other : List ℕ) → IsReportText code all answers with_splits suite text
-      → IsReportText code all answers with_splits suite other → text ≡ other
-  report-one with_splits text other h k =
-      reports-one code answers h.0.variants k.0.variants (lists-alike code all h.0 k.0 h.1 k.1) with_splits suite text other h.2 k.2
+  pub report-one : (show : Show) (text other : List ℕ) → IsReportText code all answers show suite text
+      → IsReportText code all answers show suite other → text ≡ other
+  report-one show text other h k =
+      reports-one code answers h.0.variants k.0.variants (lists-alike code all h.0 k.0 h.1 k.1) show suite text other h.2 k.2
 
   pub rise-one : (counts other : Counts) → IsReportRise code all answers suite counts → IsReportRise code all answers suite other → counts ≡ other
   rise-one counts other h k =

@@ -10,6 +10,7 @@ use Rattle.mutant_records.specs.declared.list.MutantList.{MutantList}
 use Rattle.test_suite.specs.declared.suite.Suite.{Suite}
 use Rattle.suite_analysis.specs.Runs.{IsReport, suite_steps, suite_asks}
 use Rattle.command_files.specs.declared.module.Loaded.{Loaded}
+use Rattle.work_report.specs.declared.show.Show.{Show}
 use Rattle.command_plan.specs.declared.stop.Stop.TheVariants as stop
 use Rattle.command_plan.specs.Plan.{Counts}
 use Rattle.command_plan.specs.Answer.{Found, RunsOut, RiseBy, RiseWithin}
@@ -32,7 +33,7 @@ rises_within old new before after steps asks b h = record {
   asks_within = λ port. (h port).1;
 }
 
-module _ (files : Files) (answers : Answers) (with_splits : Bool) (m : Loaded) (all : List Made) (suite : Suite) (list : MutantList)
+module _ (files : Files) (answers : Answers) (show : Show) (m : Loaded) (all : List Made) (suite : Suite) (list : MutantList)
     (is_list : IsListOf m.code all list) (old new : ℕ) (before after : List ℕ) where
   abbrev steps : ℕ
   steps = suite_steps m.code list.variants answers suite.tests
@@ -40,12 +41,12 @@ module _ (files : Files) (answers : Answers) (with_splits : Bool) (m : Loaded) (
   abbrev asks : ℕ → ℕ
   asks = suite_asks m.code list.variants answers suite.tests
 
-  pub report_found : (text : List ℕ) → IsReport m.code list.variants answers with_splits suite text → new ≡ old + steps → AskedBy before after asks
-      → Found files (λ name. ⊥) (run_end answers with_splits m all suite) (counts_of old (asked_in before)) (counts_of new (asked_in after)) (Ok text)
+  pub report_found : (text : List ℕ) → IsReport m.code list.variants answers show suite text → new ≡ old + steps → AskedBy before after asks
+      → Found files (λ name. ⊥) (run_end answers show m all suite) (counts_of old (asked_in before)) (counts_of new (asked_in after)) (Ok text)
   report_found text is e h =
       (counts_of steps asks, ((list, is_list, is), (list, is_list, refl)), rises_by old new before after steps asks e h)
 
   pub no_report : IsBetween old new (old + steps) → AskedAtMostBy before after asks
-      → Found files (λ name. ⊥) (run_end answers with_splits m all suite) (counts_of old (asked_in before)) (counts_of new (asked_in after))
+      → Found files (λ name. ⊥) (run_end answers show m all suite) (counts_of old (asked_in before)) (counts_of new (asked_in after))
       (Err stop.OutOfMemory)
   no_report b h = RunsOut.behind (counts_of steps asks) (list, is_list, refl) (rises_within old new before after steps asks b h)

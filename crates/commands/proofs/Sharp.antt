@@ -1,15 +1,19 @@
 -- Over the same files each command ends in one way.
-use Rattle.std.proofs.Common.{ℕ, Bool, List, Option, Some, None}
+use Rattle.std.proofs.Common.{ℕ, Bool, true, false, List, [], codes, Option, Some, None}
+use Rattle.am_base.specs.declared.limits.TheConstants.{DEFAULT_BUDGET}
 use Rattle.code_form.specs.declared.sign.PortSign.{PortSign}
+use Rattle.ports.specs.Asks.{answers_in}
 use Rattle.machine_form.specs.Calls.{Answers}
 use Rattle.ir_tokens.specs.Bytes.{Text}
 use Rattle.mutant_records.specs.declared.list.Made.{Made}
 use Rattle.test_suite.specs.declared.suite.Suite.{Suite}
 use Rattle.test_suite.specs.declared.suite.Test.{Test}
 use Rattle.refused_lines.specs.Refusals.{no_mutant_line, no_test_line}
+use Rattle.work_report.specs.declared.show.Show.{Show}
+use Rattle.work_report.specs.declared.show.Show.TheVariants.{Summary}
 use Rattle.command_plan.specs.declared.status.Input.{Input}
 use Rattle.command_plan.specs.declared.status.Input.TheVariants as input
-use Rattle.command_plan.specs.Plan.{Plan, Want, Write}
+use Rattle.command_plan.specs.Plan.{Plan, Want, Bound, Write}
 use Rattle.command_plan.specs.Sharp.{IsSharp}
 use Rattle.command_files.specs.declared.module.Loaded.{Loaded}
 use Rattle.command_files.proofs.OneModule.{refused-one, refused-accepted, accepted-one}
@@ -19,10 +23,17 @@ use Rattle.commands.specs.declared.wanted.Point.{Point}
 use Rattle.commands.specs.declared.wanted.Wanted.{Wanted}
 use Rattle.commands.specs.Alone.{IsRunText, IsRunRise, mutant_numbered, test_numbered}
 use Rattle.commands.specs.Groups.{AreGroups, IsGroupsRise}
-use Rattle.commands.specs.Plans.{check_plan, files_plan, run_plan, run_end, alone_plan, alone_end, groups_plan, groups_end}
+use Rattle.commands.specs.Plans.{check_plan, make_plan, files_plan, run_plan, run_end, alone_plan, alone_end, groups_plan, groups_end, load_plan}
 
 pub check_sharp : (signs : List PortSign) (name : Text) → IsSharp (check_plan signs name)
 check_sharp signs name = (refused-one signs, refused-accepted signs, accepted-one signs, λ file m h. tt)
+
+bound_sharp : (within : Bool) (next : Plan) → IsSharp next → IsSharp (Bound within next)
+bound_sharp false next h = tt
+bound_sharp true next h = h
+
+pub make_sharp : (signs : List PortSign) (name : Text) → IsSharp (make_plan signs name)
+make_sharp signs name = (refused-one signs, refused-accepted signs, accepted-one signs, λ file m h. bound_sharp _ _ tt)
 
 -- a plan over three files is sharp where what follows is
 files_sharp : (signs : List PortSign) (budget : ℕ) (name mutants tests : Text) (next : Loaded → List Made → Suite → Plan)
@@ -56,10 +67,10 @@ groups_end_sharp answers p m all suite =
     wanted_sharp input.Tests (no_test_line p.test) Test (test_numbered suite.tests p.test)
     (λ t. Write (AreGroups m.code all answers p.step t) (IsGroupsRise m.code all answers p.step t)) (λ t. tt)
 
-pub run_sharp : (signs : List PortSign) (answers : Answers) (budget : ℕ) (name mutants tests : Text) (with_splits : Bool)
-    → IsSharp (run_plan signs answers budget name mutants tests with_splits)
-run_sharp signs answers budget name mutants tests with_splits =
-    files_sharp signs budget name mutants tests (run_end answers with_splits) (λ m all suite. tt)
+pub run_sharp : (signs : List PortSign) (answers : Answers) (budget : ℕ) (name mutants tests : Text) (show : Show)
+    → IsSharp (run_plan signs answers budget name mutants tests show)
+run_sharp signs answers budget name mutants tests show =
+    files_sharp signs budget name mutants tests (run_end answers show) (λ m all suite. tt)
 
 pub alone_sharp : (signs : List PortSign) (answers : Answers) (budget : ℕ) (name mutants tests : Text) (w : Wanted)
     → IsSharp (alone_plan signs answers budget name mutants tests w)
@@ -70,3 +81,6 @@ pub groups_sharp : (signs : List PortSign) (answers : Answers) (budget : ℕ) (n
     → IsSharp (groups_plan signs answers budget name mutants tests p)
 groups_sharp signs answers budget name mutants tests p =
     files_sharp signs budget name mutants tests (groups_end answers p) (groups_end_sharp answers p)
+
+pub load_sharp : (number : ℕ) → IsSharp (load_plan number)
+load_sharp number = run_sharp [] (answers_in []) DEFAULT_BUDGET (codes "module") (codes "mutants") (codes "tests") (Summary number)

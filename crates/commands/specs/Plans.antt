@@ -1,15 +1,19 @@
 -- The plan of each command.
-use Rattle.std.specs.Prelude.{◌≡◌, ℕ, Bool, List}
+use Rattle.std.specs.Prelude.{◌≡◌, ℕ, List, [], codes, length, nat_le}
+use Rattle.am_base.specs.declared.limits.TheConstants.{DEFAULT_BUDGET, MAX_LISTED_MUTANTS}
 use Rattle.code_form.specs.declared.sign.PortSign.{PortSign}
+use Rattle.ports.specs.Asks.{answers_in}
 use Rattle.machine_form.specs.Calls.{Answers}
 use Rattle.ir_tokens.specs.Bytes.{Text}
 use Rattle.mutant_records.specs.declared.list.Made.{Made}
 use Rattle.test_suite.specs.declared.suite.Suite.{Suite}
 use Rattle.test_suite.specs.declared.suite.Test.{Test}
 use Rattle.refused_lines.specs.Refusals.{no_mutant_line, no_test_line}
+use Rattle.work_report.specs.declared.show.Show.{Show}
+use Rattle.work_report.specs.declared.show.Show.TheVariants.{Summary}
 use Rattle.command_texts.specs.Accepted.{accepted_text}
 use Rattle.command_plan.specs.declared.status.Input.TheVariants as input
-use Rattle.command_plan.specs.Plan.{Counts, no_counts, Plan, Read, Want, Write}
+use Rattle.command_plan.specs.Plan.{Counts, no_counts, Plan, Read, Want, Bound, Over, Write}
 use Rattle.command_files.specs.declared.module.Loaded.{Loaded}
 use Rattle.command_files.specs.Modules as module_file
 use Rattle.command_files.specs.Mutants as mutants_file
@@ -19,12 +23,22 @@ use Rattle.commands.specs.declared.wanted.Wanted.{Wanted}
 use Rattle.commands.specs.Alone.{IsRunText, IsRunRise, mutant_numbered, test_numbered}
 use Rattle.commands.specs.Groups.{AreGroups, IsGroupsRise}
 use Rattle.commands.specs.Run.{IsReportText, IsReportRise}
+use Rattle.mutant_maker.specs.Lists.{made, list_text}
+use Rattle.workload.specs.Workload.{workload_file}
 
 -- `check`: the module, and what it has
 abbrev pub check_plan : List PortSign → Text → Plan
 check_plan signs name =
     Read name input.Module (module_file.IsRefused signs) Loaded (module_file.IsAccepted signs)
     (λ m. Write (λ text. text ≡ accepted_text m.module.items) (λ counts. counts ≡ no_counts))
+
+-- `make`: the module, and the list of the mutants that the makers make of it, unless they are too many
+abbrev pub make_end : Loaded → Plan
+make_end m =
+    Bound (nat_le (length (made m.module m.code)) MAX_LISTED_MUTANTS) (Write (λ text. text ≡ list_text (made m.module m.code)) (λ counts. counts ≡ no_counts))
+
+abbrev pub make_plan : List PortSign → Text → Plan
+make_plan signs name = Read name input.Module (module_file.IsRefused signs) Loaded (module_file.IsAccepted signs) make_end
 
 -- ---- three files in their order
 
@@ -50,9 +64,9 @@ unread_plan signs budget name mutants tests =
 
 -- ---- what follows
 
--- the report
-abbrev pub run_end : Answers → Bool → Loaded → List Made → Suite → Plan
-run_end answers with_splits m all suite = Write (IsReportText m.code all answers with_splits suite) (IsReportRise m.code all answers suite)
+-- what is shown of the report
+abbrev pub run_end : Answers → Show → Loaded → List Made → Suite → Plan
+run_end answers show m all suite = Write (IsReportText m.code all answers show suite) (IsReportRise m.code all answers suite)
 
 -- the wanted mutant, the wanted test, and the run of the one on the other
 abbrev pub alone_end : Answers → Wanted → Loaded → List Made → Suite → Plan
@@ -70,8 +84,8 @@ groups_end answers p m all suite =
 -- ---- the commands over three files
 
 -- `run`
-abbrev pub run_plan : List PortSign → Answers → ℕ → Text → Text → Text → Bool → Plan
-run_plan signs answers budget name mutants tests with_splits = files_plan signs budget name mutants tests (run_end answers with_splits)
+abbrev pub run_plan : List PortSign → Answers → ℕ → Text → Text → Text → Show → Plan
+run_plan signs answers budget name mutants tests show = files_plan signs budget name mutants tests (run_end answers show)
 
 -- `alone`
 abbrev pub alone_plan : List PortSign → Answers → ℕ → Text → Text → Text → Wanted → Plan
@@ -80,3 +94,8 @@ alone_plan signs answers budget name mutants tests wanted = files_plan signs bud
 -- `groups`
 abbrev pub groups_plan : List PortSign → Answers → ℕ → Text → Text → Text → Point → Plan
 groups_plan signs answers budget name mutants tests point = files_plan signs budget name mutants tests (groups_end answers point)
+
+-- `load`: the summary of a run without ports over the files of the workload of this number, and over these alone
+abbrev pub load_plan : ℕ → Plan
+load_plan number =
+    Over (workload_file number) (run_plan [] (answers_in []) DEFAULT_BUDGET (codes "module") (codes "mutants") (codes "tests") (Summary number))

@@ -2,16 +2,23 @@
 #![tactic(auto)]
 
 mod alone;
+mod built_in;
 mod check;
 mod groups;
 mod laws;
 mod load;
+mod make;
 mod run;
 mod wanted;
 
 pub use alone::alone_found;
+pub use built_in::load_found;
 pub use check::check_found;
 pub use groups::groups_found;
-pub use laws::{groups_are_classes, named_plans, one_grouping, one_report, one_run, sharp_plans};
+pub use laws::{
+    groups_are_classes, load_has_no_read_fault, named_plans, one_grouping, one_report, one_run,
+    sharp_plans,
+};
+pub use make::make_found;
 pub use run::run_found;
 pub use wanted::{Point, Wanted};

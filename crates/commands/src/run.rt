@@ -23,12 +23,13 @@ use flat_machine::Ports;
 use picker::Picker;
 use std::alloc::Global;
 use suite_analysis::report_of;
+use work_report::Show;
 
-/// The report where the files are accepted, or why there is none.
+/// What is shown of the report, where the files are accepted, or why there is none.
 fn run_wanted<P: Ports>(
     alloc: Global,
     s: &Subject,
-    with_splits: bool,
+    show: Show,
     ports: P,
     picker: &mut Box<dyn Picker>,
     meter: &mut Meter,
@@ -40,32 +41,23 @@ fn run_wanted<P: Ports>(
     requires few { (p : ℕ) → asked_in (P.outside ports).asked p ≤ 2 ^ 62 }
     requires room { meter.old ≤ 2 ^ 62 }
     ensures found { (files : Files) (all : List Made) → IsListOf s.now.m.code all s.now.list →
-        Found files (λ name. ⊥) (run_end (answers_in (P.outside ports).answers) with_splits s.now.m all s.now.suite)
+        Found files (λ name. ⊥) (run_end (answers_in (P.outside ports).answers) show s.now.m all s.now.suite)
         (counts_of meter.old (asked_in (P.outside ports).asked)) (counts_of meter.new (asked_in (P.outside result.0).asked)) result.1 }
     ensures signs { (P.outside result.0).signs ≡ (P.outside ports).signs }
     ensures answers { (P.outside result.0).answers ≡ (P.outside ports).answers }
 {
     let code = &s.m.code;
     let variants = &s.list.variants;
-    let (ports, text) = report_of(
-        alloc,
-        code,
-        variants,
-        &s.suite,
-        with_splits,
-        ports,
-        picker,
-        meter,
-    );
+    let (ports, text) = report_of(alloc, code, variants, &s.suite, show, ports, picker, meter);
     match text {
         Ok(text) => (ports, Ok(Items::from_vec(text))),
         Err(OutOfMemory) => (ports, Err(Stop::OutOfMemory)),
     }
 }
 
-/// The report over the three files of these names, or why there is none. Each file is judged whole
-/// before the next is read. A test that states no budget gets this one, from 1 to `MAX_BUDGET`.
-/// `signs` are those of the ports, which it gives back, whatever it answers.
+/// What is shown of the report over the three files of these names, or why there is none. Each file
+/// is judged whole before the next is read. A test that states no budget gets this one, from 1 to
+/// `MAX_BUDGET`. `signs` are those of the ports, which it gives back, whatever it answers.
 pub fn run_found<F: Shelf, P: Ports>(
     alloc: Global,
     shelf: &mut F,
@@ -73,7 +65,7 @@ pub fn run_found<F: Shelf, P: Ports>(
     mutants: &str,
     tests: &str,
     budget: u64,
-    with_splits: bool,
+    show: Show,
     signs: &[PortSign],
     ports: P,
     picker: &mut Box<dyn Picker>,
@@ -86,7 +78,7 @@ pub fn run_found<F: Shelf, P: Ports>(
     requires few { (p : ℕ) → asked_in (P.outside ports).asked p ≤ 2 ^ 62 }
     requires room { meter.old ≤ 2 ^ 62 }
     ensures found { Found (F.files shelf.old) (λ name. Rose (F.faults shelf.old name) (F.faults shelf.new name))
-        (run_plan signs.now (answers_in (P.outside ports).answers) budget module_name.now mutants.now tests.now with_splits)
+        (run_plan signs.now (answers_in (P.outside ports).answers) budget module_name.now mutants.now tests.now show)
         (counts_of meter.old (asked_in (P.outside ports).asked)) (counts_of meter.new (asked_in (P.outside result.0).asked)) result.1 }
     ensures signs { (P.outside result.0).signs ≡ (P.outside ports).signs }
     ensures answers { (P.outside result.0).answers ≡ (P.outside ports).answers }
@@ -95,6 +87,6 @@ pub fn run_found<F: Shelf, P: Ports>(
 {
     match load_files(alloc, shelf, module_name, mutants, tests, budget, signs) {
         Err(stop) => (ports, Err(stop)),
-        Ok(subject) => run_wanted(alloc, &subject, with_splits, ports, picker, meter),
+        Ok(subject) => run_wanted(alloc, &subject, show, ports, picker, meter),
     }
 }

@@ -1,8 +1,8 @@
 //! The plan of a turn: the different variants of the members, the changes that they make, and for
 //! each different change its members.
 
-ghost use Rattle.std.specs.Prelude.{◌≡◌, ◌↔◌, ℕ, ◌*◌, ◌^◌, ◌<◌, ◌≤◌, [], length, IfOk, OnOk, IsTrue, EachIndex, map, nat_eq, slice_index, ◌≢◌, ◌+◌, List};
-ghost use Rattle.std.specs.Prelude.{IfSome, IfNone, ◌==◌, ◌++◌, ◌∷◌, reverse, vec_len, vec_capacity, nat_lt, if◌then◌else◌};
+ghost use Rattle.std.specs.Prelude.{◌≡◌, ◌↔◌, ℕ, ◌*◌, ◌^◌, ◌<◌, ◌≤◌, [], length, IfOk, OnOk, IsTrue, EachIndex, map, nat_eq, slice_index, ◌+◌, List};
+ghost use Rattle.std.specs.Prelude.{◌==◌, ◌++◌, ◌∷◌, reverse, vec_len, vec_capacity, nat_lt, if◌then◌else◌};
 ghost use Rattle.std.specs.List.{All, Contains, IsDistinct, filter};
 ghost use Rattle.code_form.specs.Variant.{variant_of, IsRising};
 ghost use Rattle.member_sets.specs.Members.{IsMemberList, class_at, parts_by, is_class_leader};
@@ -13,7 +13,6 @@ ghost use Rattle.exec_core.specs.Counted.{tries_of_turn};
 ghost use Rattle.code_form.specs.Trial.{trial_of};
 ghost use Rattle.exec_core.specs.Plans.{plans_of, plans_at, KnowsTable, planned_of, states_of, own_firsts};
 ghost use Rattle.exec_core.specs.Executions.{execution_of};
-ghost use Rattle.std.specs.List.Sorted.{IsStrictlyIncreasing};
 ghost use Rattle.exec_core.specs.ClassTable.{IsAt, with_number, firsts, HasClasses};
 ghost use Rattle.member_sets.specs.Marks.{AreMarked};
 ghost use Rattle.exec_core.specs.Held.{AreForksOf};
@@ -72,9 +71,8 @@ fn try_members<M: Machine>(
     ensures keeps { Keeps M.view machine.old machine.new [] }
 {
     let place = machine.place(&e.state);
-    let members = e.members.as_slice();
     let _len = e.members.len();
-    let variants = variants_in(alloc, members, table, place, marks)?;
+    let variants = variants_in(alloc, &e.members, table, place, marks)?;
     let mut changes = Vec::new(alloc);
     machine.tries(alloc, &e.state, &variants, &mut changes)?;
     Ok(Tried { variants, changes })
@@ -105,7 +103,7 @@ fn split(
     if !are_zero(numbers) {
         return members.split_by(alloc, table, place, class_of);
     }
-    let _members = members.as_slice();
+    let _len = members.len();
     let mut parts = Vec::with_capacity(alloc, 1)?;
     parts.push(members.share()?)?;
     Ok(Items::from_vec(parts))
@@ -151,19 +149,6 @@ pub fn make_plans<M: Machine>(
     })
 }
 
-/// Returns the index of a number in a rising list. `None` iff it isn't there. O(log n).
-fn index_of(numbers: &[u32], number: u32) -> Option<usize>
-    requires { IsStrictlyIncreasing numbers.now }
-    ensures within { IfSome result (λ at. at < length numbers.now) }
-    ensures there { IfSome result (λ at. slice_index numbers.now at ≡ number) }
-    ensures none { IfNone result ((k : ℕ) → k < length numbers.now → slice_index numbers.now k ≢ number) }
-{
-    match numbers.binary_search(&number) {
-        Ok(at) => Some(at),
-        Err(_) => None,
-    }
-}
-
 /// Appends a number that isn't among these yet. Each of them has its index in the table of marks.
 /// O(1).
 fn add(marks: &mut Vec<u32>, numbers: &mut Vec<u32>, number: u32) -> Result<(), OutOfMemory>
@@ -205,11 +190,11 @@ fn add_originals(
 }
 
 /// Goes over the members from the index `at` up to the mutant `m`, which has this variant. Returns
-/// the index behind it, or `at` where it is no member. O(log n).
+/// the index behind it, or `at` where it is no member. O(1), and O(log n) where the members are few.
 fn visit(
     marks: &mut Vec<u32>,
     variants: &mut Vec<u32>,
-    members: &[u32],
+    members: &Members,
     at: usize,
     m: u32,
     variant: u32,
@@ -224,7 +209,7 @@ fn visit(
         → slice_index touched i ≡ m → variant ≡ v m → IsAt v members.now touched i at → variants.old.items ≡ firsts v members.now at
         → IsAt v members.now touched (i + 1) next × (variants.new.items ≡ firsts v members.now next)) }
 {
-    match index_of(members, m) {
+    match members.index_of(m) {
         Some(found) => {
             add_originals(marks, variants, at, found)?;
             add(marks, variants, variant)?;
@@ -239,10 +224,10 @@ fn visit(
 /// afterwards.
 ///
 /// It looks up each mutant that has a replacement at the place. All other members have variant 0,
-/// and aren't looked at: O(w log n) for w such mutants and n members.
+/// and aren't looked at: O(w) for w such mutants, and O(w log n) where the n members are few.
 pub fn variants_in(
     alloc: Global,
-    members: &[u32],
+    members: &Members,
     table: &Variants,
     place: Place,
     marks: &mut Vec<u32>,
@@ -259,7 +244,7 @@ pub fn variants_in(
         let variant = table.variant(*m, place);
         at = visit(marks, &mut variants, members, at, *m, variant)?;
     }
-    add_originals(marks, &mut variants, at, members.len())?;
+    add_originals(marks, &mut variants, at, members.len() as usize)?;
     Ok(variants)
 }
 

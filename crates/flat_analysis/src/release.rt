@@ -14,6 +14,18 @@ use exec_core::{Class, Machine};
 use flat_machine::{FlatOver, FlatState, Ports};
 use std::alloc::Global;
 
+/// Returns the state of a class.
+fn into_state<S>(class: Class<S>) -> S
+    ensures { result ≡ class.state }
+{
+    let Class {
+        state,
+        members: _,
+        length: _,
+    } = class;
+    state
+}
+
 /// Releases the states of the classes.
 pub fn release_all<M: Machine>(machine: &mut M, classes: Items<Class<M::State>>)
     requires out { All (λ c. M.view.is_out machine.old c.state) classes }
@@ -25,12 +37,7 @@ pub fn release_all<M: Machine>(machine: &mut M, classes: Items<Class<M::State>>)
 {
     let mut rest = classes.into_vec();
     while let Some(class) = rest.pop() {
-        let Class {
-            state,
-            members: _,
-            length: _,
-        } = class;
-        machine.release(state);
+        machine.release(into_state(class));
     }
     rest.destroy_empty();
 }

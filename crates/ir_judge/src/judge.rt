@@ -1,5 +1,7 @@
 //! The first fault of a module.
-ghost use Rattle.std.specs.Prelude.{◌≡◌, ◌≤◌, ◌^◌, length, IfOk};
+ghost use Rattle.std.specs.Prelude.{◌≡◌, ◌≤◌, ◌^◌, [], length, IfOk};
+ghost use Rattle.ir_room.specs.Rooms.{IsRoomOf};
+ghost use Rattle.ir_rules.specs.Types.{type_defs};
 ghost use Rattle.ir_rules.specs.Rules.{fault};
 
 use am_base::OutOfMemory;
@@ -27,12 +29,26 @@ pub fn fault_of(
 {
     let named = Ports::new(alloc, ports)?;
     let mut rules = TypedRules::of(alloc, items)?;
+    fault_by(alloc, items, &named, &mut rules)
+}
+
+/// Returns the first fault of a module by its ports and rules, where the rules have judged no item.
+fn fault_by(
+    alloc: Global,
+    items: &[Item],
+    ports: &Ports<'_>,
+    rules: &mut TypedRules<'_>,
+) -> Result<Option<Fault>, OutOfMemory>
+    requires defs { rules.old.types.defs ≡ type_defs items.now }
+    requires room { IsRoomOf rules.old.types.defs [] rules.old.room }
+    ensures { IfOk result (λ found. found ≡ fault items.now ports.now) }
+{
     let kinds = rules.types.kinds(alloc)?;
     let entities = entities_of(alloc, &kinds, items)?;
     let known = Known {
         kinds: &kinds,
         entities: &entities,
-        ports: &named,
+        ports,
     };
-    first_fault(alloc, &known, &mut rules, items)
+    first_fault(alloc, &known, rules, items)
 }

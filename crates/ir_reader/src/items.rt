@@ -88,9 +88,9 @@ fn instruction_of(
 ) -> Result<Option<Item>, PartError>
     ensures { Reads ((spec.instruction_of result_name).parse cursor.old) result cursor.new }
 {
-    let op = instruction(alloc, cursor)?;
+    let op = Boxed::new(alloc, instruction(alloc, cursor)?)?;
     repeated(alloc, cursor, Ignored::Tails)?;
-    Ok(Some(Item::Instr(result_name, Boxed::new(alloc, op)?)))
+    Ok(Some(Item::Instr(result_name, op)))
 }
 
 /// `Local = type T` or `Local = op tail*`.

@@ -38,20 +38,8 @@ fn word_blocks(op: BinOp, w: Width, a: &[u64], b: &[u64], out: &mut [u64]) -> us
     }
 }
 
-/// The word and the number of the trap of one lane.
-fn lane(op: BinOp, w: Width, left: u64, right: u64) -> (u64, u8)
-    requires left_word { IsWord w left }
-    requires right_word { IsWord w right }
-    ensures word { result.0 ≡ lane_word op w left right }
-    ensures trap { result.1 ≡ lane_trap op w left right }
-{
-    match binary(op, w, left, right) {
-        Ok(word) => (word, 0),
-        Err(trap) => (0, trap.number() as u8),
-    }
-}
-
 /// The operation on the lanes from an index on, where those before it are done.
+#[inline(always)]
 fn single_lanes(
     op: BinOp,
     w: Width,
@@ -75,16 +63,56 @@ fn single_lanes(
     ensures traps { traps.new ≡ zip2 (lane_trap op w) a.now b.now }
 {
     for i in from..a.len() {
-        let (word, trap) = lane(op, w, a[i], b[i]);
-        out[i] = word;
-        traps[i] = trap;
+        match binary(op, w, a[i], b[i]) {
+            Ok(word) => {
+                out[i] = word;
+                traps[i] = 0;
+            }
+            Err(trap) => {
+                out[i] = 0;
+                traps[i] = trap.number() as u8;
+            }
+        }
+    }
+}
+
+/// The same, with a loop of its own for each division, so that no lane picks the operation anew.
+fn last_lanes(
+    op: BinOp,
+    w: Width,
+    a: &[u64],
+    b: &[u64],
+    out: &mut [u64],
+    traps: &mut [u8],
+    from: usize,
+)
+    requires right { length b.now ≡ length a.now }
+    requires room { length out.old ≡ length a.now }
+    requires trap_room { length traps.old ≡ length a.now }
+    requires left_words { All (IsWord w) a.now }
+    requires right_words { All (IsWord w) b.now }
+    requires within { from ≤ length a.now }
+    requires words_done { take from out.old ≡
+        zip2 (lane_word op w) (take from a.now) (take from b.now) }
+    requires traps_done { take from traps.old ≡
+        zip2 (lane_trap op w) (take from a.now) (take from b.now) }
+    ensures words { out.new ≡ zip2 (lane_word op w) a.now b.now }
+    ensures traps { traps.new ≡ zip2 (lane_trap op w) a.now b.now }
+{
+    match op {
+        BinOp::UDiv => single_lanes(BinOp::UDiv, w, a, b, out, traps, from),
+        BinOp::SDiv => single_lanes(BinOp::SDiv, w, a, b, out, traps, from),
+        BinOp::URem => single_lanes(BinOp::URem, w, a, b, out, traps, from),
+        BinOp::SRem => single_lanes(BinOp::SRem, w, a, b, out, traps, from),
+        _ => single_lanes(op, w, a, b, out, traps, from),
     }
 }
 
 /// Writes for each lane the word that the operation on the word of `a` and the word of `b` gives,
 /// and 0 into the lane of traps; where the operation traps, 0 and the number of the trap. Divisions
 /// and remainders go lane by lane. LLVM Language Reference, "Binary Operations" and "Bitwise Binary
-/// Operations"; the traps are this project's own. Takes no memory. O(n).
+/// Operations"; the traps are this project's own. All slices have one length, and the words are of
+/// width `w`. Takes no memory. O(n).
 pub fn binary_lanes(op: BinOp, w: Width, a: &[u64], b: &[u64], out: &mut [u64], traps: &mut [u8])
     requires right { length b.now ≡ length a.now }
     requires room { length out.old ≡ length a.now }
@@ -96,5 +124,5 @@ pub fn binary_lanes(op: BinOp, w: Width, a: &[u64], b: &[u64], out: &mut [u64], 
 {
     let at = word_blocks(op, w, a, b, out);
     traps[..at].fill(0);
-    single_lanes(op, w, a, b, out, traps, at);
+    last_lanes(op, w, a, b, out, traps, at);
 }

@@ -52,7 +52,8 @@ fn compare_blocks(p: Pred, width: Width, a: &[u64], b: &[u64], out: &mut [u64]) 
 }
 
 /// Writes for each lane 1 where the comparison of the word of `a` with the word of `b` holds, and 0
-/// where it doesn't. LLVM Language Reference, "icmp Instruction". Takes no memory. O(n).
+/// where it doesn't. LLVM Language Reference, "icmp Instruction". All slices have one length, and
+/// the words are of width `w`. Takes no memory. O(n).
 pub fn compare_lanes(p: Pred, w: Width, a: &[u64], b: &[u64], out: &mut [u64])
     requires right { length b.now ≡ length a.now }
     requires room { length out.old ≡ length a.now }

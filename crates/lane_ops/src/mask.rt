@@ -73,7 +73,8 @@ fn write_masks(a: &[u64], x: u64, out: &mut [u64])
 }
 
 /// Writes which words of `a` are equal to `x`: bit i % 64 of word i / 64 of `out` is set exactly
-/// where `a[i]` is `x`. The bits past the end of `a` are clear. Takes no memory. O(n).
+/// where `a[i]` is `x`. `out` has a word for each 64 words of `a`, rounded up. The bits past the
+/// end of `a` are clear. Takes no memory. O(n).
 pub fn equal_mask(a: &[u64], x: u64, out: &mut [u64])
     requires { length out.old ≡ (length a.now + 63) / 64 }
     ensures equal { (i : ℕ) → i < length a.now →

@@ -29,7 +29,7 @@ fn equal_blocks(a: &[u8], b: &[u8]) -> usize
     at
 }
 
-/// Returns whether the two lists differ. Takes no memory. O(n).
+/// Returns whether two lists of one length differ. Takes no memory. O(n).
 pub fn page_differs(a: &[u8], b: &[u8]) -> bool
     requires { length b.now ≡ length a.now }
     ensures { IsTrue result ↔ (a.now ≢ b.now) }

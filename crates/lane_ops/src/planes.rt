@@ -30,8 +30,8 @@ impl Single for FirstAlone {
     }
 }
 
-/// Writes for each word the bits that are set both in the word of `a` and in that of `b`. Takes no
-/// memory. O(n).
+/// Writes for each word the bits that are set both in the word of `a` and in that of `b`. All slices
+/// have one length. Takes no memory. O(n).
 pub fn and_planes(a: &[u64], b: &[u64], out: &mut [u64])
     requires right { length b.now ≡ length a.now }
     requires room { length out.old ≡ length a.now }
@@ -42,8 +42,8 @@ pub fn and_planes(a: &[u64], b: &[u64], out: &mut [u64])
     rest(&both, a, b, out, at);
 }
 
-/// Writes for each word the bits that are set in the word of `a` and not in that of `b`. Takes no
-/// memory. O(n).
+/// Writes for each word the bits that are set in the word of `a` and not in that of `b`. All slices
+/// have one length. Takes no memory. O(n).
 pub fn and_not_planes(a: &[u64], b: &[u64], out: &mut [u64])
     requires right { length b.now ≡ length a.now }
     requires room { length out.old ≡ length a.now }

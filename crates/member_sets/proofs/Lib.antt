@@ -3,3 +3,7 @@ pub mod Example
 pub mod Firsts
 pub mod Marked
 pub mod Lists
+pub mod Bits
+pub mod Rising
+pub mod Kernels
+pub mod Merged

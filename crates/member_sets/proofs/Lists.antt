@@ -18,7 +18,7 @@ use Rattle.member_sets.specs.Filed.{AreFiled}
 use Rattle.member_sets.proofs.Firsts.{any_firsts, firsts_taken, firsts_left, leads}
 use Rattle.member_sets.proofs.Parts.{filter_taken, filter_left, part_is}
 
-flipped : (x y : ℕ) → (x == y) ≡ (y == x)
+pub flipped : (x y : ℕ) → (x == y) ≡ (y == x)
 flipped x y = grind (arith, nat_tests)
 
 none_filed : (class : ℕ → ℕ) (c : ℕ) (xs : List ℕ) → list_any (λ x. x == c) (map class xs) ≡ false → filter (λ m. c == class m) xs ≡ []
@@ -27,7 +27,7 @@ none_filed class c (x ∷ xs) h = on_bool (class x == c)
     (λ t. absurd (true≢false (sym (rw t refl) ∙ h)))
     (λ f. rw (flipped c (class x) ∙ f) (none_filed class c xs (sym (rw f refl) ∙ h)))
 
-map_where : (f g : ℕ → List ℕ) (xs : List ℕ) → All (λ x. f x ≡ g x) xs → map f xs ≡ map g xs
+pub map_where : (f g : ℕ → List ℕ) (xs : List ℕ) → All (λ x. f x ≡ g x) xs → map f xs ≡ map g xs
 map_where f g [] h = refl
 map_where f g (x ∷ xs) h = let a : f x ≡ g x = h 0 x (omega arith) in let b = map_where f g xs (λ k d l. h (suc k) d (omega arith)) in cc
 

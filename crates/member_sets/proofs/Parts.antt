@@ -8,10 +8,11 @@ use Rattle.std.specs.Result.{is_ok}
 use Rattle.std.proofs.lemmas.List.Sorted.{searched}
 use Rattle.std.proofs.lemmas.Bool.{lt-ltb, le-ltb, eq-eqb, cases_lt}
 use Rattle.std.proofs.lemmas.List.{take_more, take-map, get_or-map, get_or_default, take-append-drop, get_or-take, length-take}
-use Rattle.std.proofs.lemmas.List.Elements.{filter-append, Contains-get_or}
+use Rattle.std.proofs.lemmas.List.Elements.{All-filter, filter-append, Contains-get_or}
 use Rattle.std.proofs.lemmas.List.Folds.{list_any-append, list_any_none, list_any_at}
 use Rattle.std.proofs.lemmas.List.Sums.{length-filter, count_by-le-length}
 use Rattle.std.proofs.lemmas.List.Kept.{IsStrictlyIncreasing-filter, AllPairs-from_increasing}
+use Rattle.am_base.specs.declared.limits.TheConstants.{MAX_MUTANTS}
 use Rattle.member_sets.specs.Members.{IsMemberList, same_class, is_class_leader, parts_by}
 use Rattle.traces.proofs.Bools.{or_false}
 use Rattle.traces.proofs.Lists.{to_filter}
@@ -103,6 +104,7 @@ module _ (class : ℕ → ℕ) (members : List ℕ) (is : IsMemberList members) 
     few = (let f = is.few in let n = length-filter (same_class class here) members in let k = count_by-le-length (same_class class here) members in
         omega arith);
     rising = IsStrictlyIncreasing-filter (same_class class here) members is.rising;
+    within = All-filter (same_class class here) (λ m. m < MAX_MUTANTS) members is.within;
   }
 
 kept_all : (p : ℕ → Bool) (xs : List ℕ) → All (λ x. p x ≡ true) xs → filter p xs ≡ xs

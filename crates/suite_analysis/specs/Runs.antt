@@ -7,8 +7,8 @@
 --     splits_of      where executions divide: the step, and the least member of each part
 --     works_of, lists_of, the same for each test
 --     suite_steps    the sum of the steps, and suite_asks p that of the asks of port p
---     IsReport       the text shows these letters and this work, and these splits where they are asked for
-use Rattle.std.specs.Prelude.{◌≡◌, ℕ, ◌<◌, Bool, if◌then◌else◌, List, [], ◌∷◌, length, map, Some, None, slice_index_or, unwrap_or}
+--     IsReport       the text shows these letters, this work and these splits, as far as they are to be shown
+use Rattle.std.specs.Prelude.{◌≡◌, ℕ, ◌<◌, List, [], ◌∷◌, length, map, slice_index_or, unwrap_or}
 use Rattle.std.specs.List.{sum_by}
 use Rattle.am_base.specs.declared.outcome.Outcome.{Outcome}
 use Rattle.code_form.specs.declared.code.Code.{Code}
@@ -27,7 +27,8 @@ use Rattle.kill_matrix.specs.declared.letter.Letter.{Letter}
 use Rattle.kill_matrix.specs.declared.letter.Letter.TheVariants.{Same}
 use Rattle.kill_matrix.specs.Verdict.{IsVerdict}
 use Rattle.kill_matrix.specs.Score.{Letters}
-use Rattle.work_report.specs.Report.{report_text}
+use Rattle.work_report.specs.Report.{shown_text}
+use Rattle.work_report.specs.declared.show.Show.{Show}
 
 module _ (T : Trial State Change) where
   pub record AreVerdicts (expected : Outcome) (letters : List Letter) : Type 0 where
@@ -65,8 +66,8 @@ module _ (code : Code) (table : Table) (answers : Answers) where
   abbrev pub suite_asks : List Test → ℕ → ℕ
   suite_asks tests p = sum_by (λ test. asks (trial_on test) p) tests
 
-  pub record IsReport (with_splits : Bool) (suite : Suite) (text : List ℕ) : Type 0 where
+  pub record IsReport (show : Show) (suite : Suite) (text : List ℕ) : Type 0 where
     pub grid : Letters
     pub mutants : grid.mutants ≡ mutants_of table
     pub letters : AreLetters suite.tests grid.tests
-    pub is_text : text ≡ report_text suite grid (works_of suite.tests) (if with_splits then Some (lists_of suite.tests) else None)
+    pub is_text : text ≡ shown_text show suite grid (works_of suite.tests) (lists_of suite.tests)

@@ -11,7 +11,7 @@ ghost use Rattle.traces.specs.Work.{steps, asks};
 ghost use Rattle.traces.specs.Counts.{IsBetween};
 ghost use Rattle.ports.specs.Asks.{answers_in, asked_in, AskedBy, AskedAtMostBy};
 ghost use Rattle.test_suite.specs.Suite.{FitsSuite};
-ghost use Rattle.work_report.specs.Report.{FitsWords, total_of, report_text};
+ghost use Rattle.work_report.specs.Report.{FitsWords, total_of, shown_text};
 ghost use Rattle.suite_analysis.specs.Parts.{AreDone};
 ghost use Rattle.suite_analysis.specs.Runs.{trial_on, suite_steps, suite_asks, IsReport};
 
@@ -25,7 +25,7 @@ use flat_machine::Ports;
 use picker::Picker;
 use std::alloc::Global;
 use test_suite::{Suite, Test};
-use work_report::report;
+use work_report::{Show, shown};
 
 /// Analyses one more test, and gives the ports back, whatever it answers.
 fn run_test<'a, P: Ports>(
@@ -115,38 +115,28 @@ fn run_tests<'a, P: Ports>(
     (held, Ok(done))
 }
 
-/// The splits of each test, where they are asked for.
-fn splits_shown(done: &Done, with_splits: bool) -> Option<&[Items<Split>]>
-    ensures { option_copied result ≡ (if with_splits then Some done.now.splits.items else None) }
-{
-    if with_splits {
-        Some(done.splits.as_slice())
-    } else {
-        None
-    }
-}
-
-/// The report of what was found.
-fn text_of(
-    alloc: Global,
-    suite: &Suite,
-    done: &Done,
-    with_splits: bool,
-) -> Result<Vec<u8>, OutOfMemory>
+/// The text of what was found.
+fn text_of(alloc: Global, suite: &Suite, done: &Done, show: Show) -> Result<Vec<u8>, OutOfMemory>
     requires tests { length done.now.matrix.tests ≡ length suite.now.tests }
     requires works { length done.now.works.items ≡ length suite.now.tests }
     requires splits { length done.now.splits.items ≡ length suite.now.tests }
     requires sums { FitsWords (total_of done.now.works.items) }
-    ensures { IfOk result (λ text. text.items ≡ report_text suite.now done.now.matrix done.now.works.items
-        (if with_splits then Some done.now.splits.items else None)) }
+    ensures { IfOk result (λ text. text.items ≡ shown_text show suite.now done.now.matrix done.now.works.items done.now.splits.items) }
 {
-    let splits = splits_shown(done, with_splits);
-    report(alloc, suite, &done.matrix, done.works.as_slice(), splits)
+    let works = done.works.as_slice();
+    shown(
+        alloc,
+        show,
+        suite,
+        &done.matrix,
+        works,
+        done.splits.as_slice(),
+    )
 }
 
-/// Runs all mutants of a table on each test of a suite, and returns the report: the verdict on each
-/// mutant's run alone on each test, the score, the work, and where `with_splits` the splits. It
-/// gives the ports back, whatever it answers.
+/// Runs all mutants of a table on each test of a suite, and returns what is to be shown of the
+/// report: the verdict on each mutant's run alone on each test, the score, the work and the splits.
+/// It gives the ports back, whatever it answers.
 ///
 /// Each port was asked as often as the model of all tests asks it, and the meter rose by the steps.
 /// It is refused only for want of memory; then neither rose by more than that.
@@ -155,7 +145,7 @@ pub fn report_of<'a, P: Ports>(
     code: &'a Code,
     variants: &'a Variants,
     suite: &Suite,
-    with_splits: bool,
+    show: Show,
     ports: P,
     picker: &mut Box<dyn Picker>,
     meter: &mut Meter,
@@ -167,7 +157,7 @@ pub fn report_of<'a, P: Ports>(
     requires few { (p : ℕ) → asked_in (P.outside ports).asked p ≤ 2 ^ 62 }
     requires room { meter.old ≤ 2 ^ 62 }
 
-    ensures text { IfOk result.1 (λ text. IsReport code.now variants.now (answers_in (P.outside ports).answers) with_splits suite.now text.items) }
+    ensures text { IfOk result.1 (λ text. IsReport code.now variants.now (answers_in (P.outside ports).answers) show suite.now text.items) }
     ensures asks { OnOk result.1 (AskedBy (P.outside ports).asked (P.outside result.0).asked
         (suite_asks code.now variants.now (answers_in (P.outside ports).answers) suite.now.tests)) }
     ensures meter { OnOk result.1 (meter.new ≡ meter.old
@@ -192,7 +182,7 @@ pub fn report_of<'a, P: Ports>(
         meter,
     );
     match done {
-        Ok(done) => (ports, text_of(alloc, suite, &done, with_splits)),
+        Ok(done) => (ports, text_of(alloc, suite, &done, show)),
         Err(error) => (ports, Err(error)),
     }
 }

@@ -3,11 +3,13 @@
 
 mod numbers;
 mod score;
+mod show;
 mod splits;
 mod text;
 mod works;
 
 pub use score::score_text;
+pub use show::{Show, shown};
 pub use text::report;
 
 #[cfg(test)]

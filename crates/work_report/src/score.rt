@@ -54,7 +54,7 @@ fn put_mutants(out: &mut Bytes, matrix: &Matrix) -> Result<(), OutOfMemory>
     Ok(())
 }
 
-fn put_score(out: &mut Bytes, matrix: &Matrix) -> Result<(), OutOfMemory>
+pub(crate) fn put_score(out: &mut Bytes, matrix: &Matrix) -> Result<(), OutOfMemory>
     ensures { OnOk result (out.new ≡ out.old ++ score_line matrix.now) }
 {
     let (killed, mutants) = matrix.score();

@@ -1,7 +1,8 @@
 use Rattle.std.proofs.Common.{ap}
 use Rattle.std.specs.Option.{option_copied}
+use Rattle.ports.specs.Asks.{asked_in}
 use Rattle.command_words.specs.Words.{files_meant, meant}
-use Rattle.command_words.specs.declared.command.Command.TheVariants.{Groups, Run}
+use Rattle.command_words.specs.declared.command.Command.TheVariants.{Groups, Load, Run}
 use Rattle.accmut_app.proofs.FoundAnswers.{of_command}
 use Rattle.accmut_app.proofs.carried.with_picker.Goals as goal
 
@@ -17,3 +18,10 @@ returns-in-Groups-clause-answer g c =
     of_command _ _ outside.signs outside.answers _ _ _ _ _ _ (meant c.args.command)
     (Groups (files_meant c.in-Groups.files) c.in-Groups.test c.in-Groups.step c.in-Groups.budget (option_copied c.in-Groups.order)) (ap meant c.in-Groups.is)
     c.groups_written.ensures.answer
+
+pub returns-in-Load-clause-answer : goal.returns-in-Load-clause-answer
+returns-in-Load-clause-answer g c =
+    let outside = g.P.Ports.outside c.args.ports in
+    let faults = g.F.Shelf.faults c.args.shelf.now in
+    of_command _ _ outside.signs outside.answers _ _ _ _ _ _ (meant c.args.command) (Load c.in-Load.number) (ap meant c.in-Load.is)
+    (c.load_written.ensures.answer (g.F.Shelf.files c.args.shelf.now) faults faults (asked_in outside.asked))

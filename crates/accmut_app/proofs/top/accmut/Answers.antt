@@ -18,3 +18,9 @@ returns-clause-due g c k held end e told quiet still is_due =
 pub returns-clause-complete : goal.returns-clause-complete
 returns-clause-complete g c k held counts e told none still is_due =
     returns-clause-due g c k held (Accepted counts) e told (λ name d r. absurd (none name d r)) still is_due
+
+pub returns-clause-untouched : goal.returns-clause-untouched
+returns-clause-untouched g c = rw (sym c.replace-all.ensures.value) c.accmut_over-own.ensures.untouched
+
+pub returns-clause-unread : goal.returns-clause-unread
+returns-clause-unread g c = c.accmut_over-own.ensures.unread

@@ -12,7 +12,7 @@ returns-in-Err-clause-found g c =
     unread_found (g.F.Shelf.files c.args.shelf.now)
     (λ (name : List ℕ). Rose (g.F.Shelf.faults c.args.shelf.now name) (g.F.Shelf.faults c.load_files.new.shelf name))
     c.args.signs.now c.args.budget c.args.module_name.now c.args.mutants.now c.args.tests.now
-    (run_end (answers_in (g.P.Ports.outside c.args.ports).answers) c.args.with_splits) counts counts (Err c.in-Err.stop) (c.in-Err.ensures.err counts)
+    (run_end (answers_in (g.P.Ports.outside c.args.ports).answers) c.args.show) counts counts (Err c.in-Err.stop) (c.in-Err.ensures.err counts)
 
 pub returns-in-Ok-clause-found : goal.returns-in-Ok-clause-found
 returns-in-Ok-clause-found g c =
@@ -21,7 +21,7 @@ returns-in-Ok-clause-found g c =
     let s = c.in-Ok.subject in
     read_found files (λ (name : List ℕ). Rose (g.F.Shelf.faults c.args.shelf.now name) (g.F.Shelf.faults c.load_files.new.shelf name))
     c.args.signs.now c.args.budget c.args.module_name.now c.args.mutants.now c.args.tests.now
-    (run_end (answers_in (g.P.Ports.outside c.args.ports).answers) c.args.with_splits)
+    (run_end (answers_in (g.P.Ports.outside c.args.ports).answers) c.args.show)
     (counts_of c.args.meter.now (asked_in (g.P.Ports.outside c.args.ports).asked))
     (counts_of c.run_wanted.new.meter (asked_in (g.P.Ports.outside c.run_wanted.result.0).asked))
     s.m s.list s.suite read c.run_wanted.result.1 (c.run_wanted.ensures.found files read.all read.list_is)

@@ -13,6 +13,6 @@ returns c =
     let zero = c.are_zero.ensures.0 (search rules) in
     let all : All (λ m. class m ≡ 0) members = (λ k d l. let h = c.requires.classes k d l in
     sym h.2 ∙ get_or_default numbers h.0 (class (get_or members k d)) 0 h.1 ∙ zero h.0 h.1) in
-    let one = one_part class members c.as_slice-members.ensures.list all in
+    let one = one_part class members c.len-len.ensures.list all in
     c.from_vec.ensures ∙ c.in_ok-push.ensures.items ∙ ap (λ xs. xs ++ c.in_ok-share.field-0 ∷ []) c.in_ok-parts.ensures.items
     ∙ ap (λ (m : List ℕ). m ∷ []) c.in_ok-share.ensures ∙ sym one

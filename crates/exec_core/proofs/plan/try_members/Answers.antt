@@ -1,4 +1,4 @@
-use Rattle.std.proofs.Common.{◌≡◌, ℕ, List, length, map, arith, sym, ap, ◌∙◌, subst, true}
+use Rattle.std.proofs.Common.{◌≡◌, ℕ, List, length, map, arith, sym, ap, ◌∙◌, subst, true, refl}
 use Rattle.std.specs.List.{All, filter}
 use Rattle.std.proofs.lemmas.List.Elements.{All-map}
 use Rattle.code_form.specs.Variant.{Table, variant_of}
@@ -24,20 +24,19 @@ tries-requires-clause-known g c =
     let A = g.M.Machine.view.meanings c.args.machine.now in let p = A.place (g.M.Machine.view.stands c.args.machine.now c.args.e.now.state) in
     let ns = c.args.e.now.members in let v : ℕ → ℕ = λ m. variant_of c.args.table.now m p in
     subst (All (λ x. A.knows p x ≡ true))
-    (sym (c.deref.ensures.value ∙ at_place c.args.table.now c.place-place.result.0 p c.as_slice-members.result.now ns c.in_ok-variants.variants.items
-    c.as_slice-members.ensures.members c.place-place.ensures c.in_ok-variants.ensures.variants))
+    (sym (c.deref.ensures.value ∙ at_place c.args.table.now c.place-place.result.0 p c.args.e.now.members ns c.in_ok-variants.variants.items
+    refl c.place-place.ensures c.in_ok-variants.ensures.variants))
     (known_firsts (A.knows p) v (filter (is_class_leader v ns) ns) (λ m. c.requires.known m p))
 
 pub tries-requires-clause-room : goal.tries-requires-clause-room
 tries-requires-clause-room g c =
-    let f : ℕ → ℕ = λ m. variant_of c.args.table.now m c.place-place.result.0 in let ms = c.as_slice-members.result.now in
+    let f : ℕ → ℕ = λ m. variant_of c.args.table.now m c.place-place.result.0 in let ms = c.args.e.now.members in
     let few = few_firsts f ms (is_class_leader f ms) in
     omega (
       arith,
       few,
       ap length c.deref.ensures.value,
       ap length c.in_ok-variants.ensures.variants,
-      ap length c.as_slice-members.ensures.members,
       c.len-len.ensures.value,
       c.len-len.ensures.few,
       c.requires.room.tried,
@@ -45,14 +44,13 @@ tries-requires-clause-room g c =
 
 pub tries-requires-clause-room_to_ask : goal.tries-requires-clause-room_to_ask
 tries-requires-clause-room_to_ask g c port =
-    let f : ℕ → ℕ = λ m. variant_of c.args.table.now m c.place-place.result.0 in let ms = c.as_slice-members.result.now in
+    let f : ℕ → ℕ = λ m. variant_of c.args.table.now m c.place-place.result.0 in let ms = c.args.e.now.members in
     let few = few_firsts f ms (is_class_leader f ms) in
     omega (
       arith,
       few,
       ap length c.deref.ensures.value,
       ap length c.in_ok-variants.ensures.variants,
-      ap length c.as_slice-members.ensures.members,
       c.len-len.ensures.value,
       c.len-len.ensures.few,
       c.requires.room.asks port,
@@ -62,41 +60,40 @@ pub returns-in_err-tries-clause-counts_within : goal.returns-in_err-tries-clause
 returns-in_err-tries-clause-counts_within g c start budget =
     let V = g.M.Machine.view in let A = V.meanings c.args.machine.now in let w = V.stands c.args.machine.now c.args.e.now.state in let p = A.place w in
     let a = V.counts c.args.machine.now in let b = V.counts c.tries.new.self in let t = c.tries.ensures in
-    let h = c.deref.ensures.value ∙ at_place c.args.table.now c.place-place.result.0 p c.as_slice-members.result.now c.args.e.now.members
-    c.in_ok-variants.variants.items c.as_slice-members.ensures.members c.place-place.ensures c.in_ok-variants.ensures.variants in
+    let h = c.deref.ensures.value ∙ at_place c.args.table.now c.place-place.result.0 p c.args.e.now.members c.args.e.now.members
+    c.in_ok-variants.variants.items refl c.place-place.ensures c.in_ok-variants.ensures.variants in
     subst (λ vs. RoseWithin a b (counts_of_tries A w vs)) h t.counts_within
 
 pub returns-clause-counts_within : goal.returns-clause-counts_within
 returns-clause-counts_within g c start budget =
     let V = g.M.Machine.view in let A = V.meanings c.args.machine.now in let w = V.stands c.args.machine.now c.args.e.now.state in let p = A.place w in
     let a = V.counts c.args.machine.now in let b = V.counts c.tries.new.self in let t = c.tries.ensures in
-    let h = c.deref.ensures.value ∙ at_place c.args.table.now c.place-place.result.0 p c.as_slice-members.result.now c.args.e.now.members
-    c.in_ok-variants.variants.items c.as_slice-members.ensures.members c.place-place.ensures c.in_ok-variants.ensures.variants in
+    let h = c.deref.ensures.value ∙ at_place c.args.table.now c.place-place.result.0 p c.args.e.now.members c.args.e.now.members
+    c.in_ok-variants.variants.items refl c.place-place.ensures c.in_ok-variants.ensures.variants in
     subst (λ vs. RoseWithin a b (counts_of_tries A w vs)) h t.counts_within
 
 pub returns-clause-counts : goal.returns-clause-counts
 returns-clause-counts g c start budget =
     let V = g.M.Machine.view in let A = V.meanings c.args.machine.now in let w = V.stands c.args.machine.now c.args.e.now.state in let p = A.place w in
     let a = V.counts c.args.machine.now in let b = V.counts c.tries.new.self in let t = c.in_ok-tries.ensures in
-    let h = c.deref.ensures.value ∙ at_place c.args.table.now c.place-place.result.0 p c.as_slice-members.result.now c.args.e.now.members
-    c.in_ok-variants.variants.items c.as_slice-members.ensures.members c.place-place.ensures c.in_ok-variants.ensures.variants in
+    let h = c.deref.ensures.value ∙ at_place c.args.table.now c.place-place.result.0 p c.args.e.now.members c.args.e.now.members
+    c.in_ok-variants.variants.items refl c.place-place.ensures c.in_ok-variants.ensures.variants in
     subst (λ vs. RoseBy a b (counts_of_tries A w vs)) h t.counts
 
 pub returns-clause-variants : goal.returns-clause-variants
 returns-clause-variants g c start budget =
     let V = g.M.Machine.view in let p = (V.meanings c.args.machine.now).place (V.stands c.args.machine.now c.args.e.now.state) in
-    at_place c.args.table.now c.place-place.result.0 p c.as_slice-members.result.now c.args.e.now.members c.in_ok-variants.variants.items
-    c.as_slice-members.ensures.members c.place-place.ensures c.in_ok-variants.ensures.variants
+    at_place c.args.table.now c.place-place.result.0 p c.args.e.now.members c.args.e.now.members c.in_ok-variants.variants.items
+    refl c.place-place.ensures c.in_ok-variants.ensures.variants
 
 pub returns-clause-few : goal.returns-clause-few
 returns-clause-few g c =
-    let f : ℕ → ℕ = λ m. variant_of c.args.table.now m c.place-place.result.0 in let ms = c.as_slice-members.result.now in
+    let f : ℕ → ℕ = λ m. variant_of c.args.table.now m c.place-place.result.0 in let ms = c.args.e.now.members in
     let few = few_firsts f ms (is_class_leader f ms) in
     omega (
       arith,
       few,
       ap length c.in_ok-variants.ensures.variants,
-      ap length c.as_slice-members.ensures.members,
       c.len-len.ensures.value,
       c.len-len.ensures.few,
     )

@@ -43,6 +43,7 @@ returns-clause-variants c =
     let touched = c.mutants_at-touched.result.now in
     let all : c.loop-m.m-index ≡ length touched = omega (arith, c.loop-m-test.false, c.loop-m.auto.m-index-end) in
     let at = subst (λ n. IsAt v ms touched n c.loop-m.at) all i.at in
-    c.in_ok-add_originals.ensures.variants v ms c.requires at.within (omega arith)
-    (λ k a b. at_end v ms touched c.requires c.mutants_at-touched.ensures.rising c.loop-m.at at k a b) i.variants
-    ∙ ap (λ xs. Rattle.std.proofs.Common.map v (filter (is_class_leader v ms) xs)) (take_all (length ms) ms (omega arith))
+    let end = c.len.result in let whole = c.len.ensures.value in
+    c.in_ok-add_originals.ensures.variants v ms c.requires (omega (arith, at.within, whole)) (omega (arith, whole))
+    (λ k a b. at_end v ms touched c.requires c.mutants_at-touched.ensures.rising c.loop-m.at at k a (omega (arith, b, whole))) i.variants
+    ∙ ap (λ xs. Rattle.std.proofs.Common.map v (filter (is_class_leader v ms) xs)) (take_all end ms (omega (arith, whole)))

@@ -27,8 +27,9 @@ loop-class-preserved g c =
     let V = g.M.Machine.view in
     let f : Class g.row.M-State.Denot → g.row.M-State.Denot = λ x. x.state in record {
       left = left_less V g.met.M.Machine.lawful c.args.machine.now c.loop-class.machine c.release.new.self (class_numbers V c.args.classes)
-          (map f c.loop-class.rest.items) (map f c.pop.new.self.items) c.in-Some.class.state c.loop-class.invariant.left
-          (ap (map f) c.in-Some.ensures.items ∙ map-append f c.pop.new.self.items (c.in-Some.class ∷ [])) c.release.ensures.out_numbers c.release.ensures.keeps;
+          (map f c.loop-class.rest.items) (map f c.pop.new.self.items) c.into_state.result c.loop-class.invariant.left
+          (ap (map f) c.in-Some.ensures.items ∙ map-append f c.pop.new.self.items (c.in-Some.class ∷ [])
+          ∙ ap (λ s. map f c.pop.new.self.items ++ s ∷ []) (sym c.into_state.ensures)) c.release.ensures.out_numbers c.release.ensures.keeps;
       counts = same_counts_more _ _ _ c.loop-class.invariant.counts c.release.ensures.counts;
     }
 
@@ -36,9 +37,10 @@ pub release-requires : goal.release-requires
 release-requires g c =
     let V = g.M.Machine.view in
     let f : Class g.row.M-State.Denot → g.row.M-State.Denot = λ x. x.state in
-    All-contains (V.is_out c.loop-class.machine) (map f c.loop-class.rest.items) c.in-Some.class.state c.loop-class.invariant.left.out
+    subst (V.is_out c.loop-class.machine) (sym c.into_state.ensures)
+    (All-contains (V.is_out c.loop-class.machine) (map f c.loop-class.rest.items) c.in-Some.class.state c.loop-class.invariant.left.out
     (subst (λ xs. Contains (map f xs) c.in-Some.class.state) (sym c.in-Some.ensures.items)
-    (contains_map f (c.pop.new.self.items ++ c.in-Some.class ∷ []) c.in-Some.class (Contains-push c.pop.new.self.items c.in-Some.class)))
+    (contains_map f (c.pop.new.self.items ++ c.in-Some.class ∷ []) c.in-Some.class (Contains-push c.pop.new.self.items c.in-Some.class))))
 
 pub returns-clause-out_numbers : goal.returns-clause-out_numbers
 returns-clause-out_numbers g c =

@@ -4,8 +4,8 @@ use Rattle.lane_ops.specs.Lane.{lane_trap}
 use Rattle.lane_ops.proofs.Loops.{zip2_zero}
 use Rattle.lane_ops.proofs.binary.binary_lanes.Goals as goal
 
-pub single_lanes-requires-clause-traps_done : goal.single_lanes-requires-clause-traps_done
-single_lanes-requires-clause-traps_done c =
+pub last_lanes-requires-clause-traps_done : goal.last_lanes-requires-clause-traps_done
+last_lanes-requires-clause-traps_done c =
     let at = c.word_blocks-at.result in
     let a = c.args.a.now in
     let b = c.args.b.now in

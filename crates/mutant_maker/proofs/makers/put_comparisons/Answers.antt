@@ -1,0 +1,9 @@
+use Rattle.mutant_maker.specs.Makers.{same_predicate}
+use Rattle.mutant_maker.specs.Changes.{with_predicate}
+use Rattle.mutant_maker.proofs.Steps.{others_turn}
+use Rattle.mutant_maker.proofs.makers.put_comparisons.Goals as goal
+
+pub each-preserved : goal.each-preserved
+each-preserved c =
+    others_turn (same_predicate c.args.p) (with_predicate c.args.op.now) c.args.all.now c.each.k-index _
+    c.same_predicate-same.result c.args.walk.now c.each.walk c.put_unless.new.self c.each-test.true c.same_predicate-same.ensures c.each.invariant c.in_ok-put_unless.ensures

@@ -1,0 +1,4 @@
+pub mod Makers
+pub mod Lists
+pub mod Changes
+pub mod Walks

@@ -1,0 +1,9 @@
+pub mod Kept
+pub mod NewWords
+pub mod Fitting
+pub mod Apart
+pub mod Reading
+pub mod Names
+pub mod Records
+pub mod Numbered
+pub mod Accepted
