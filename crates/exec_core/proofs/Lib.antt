@@ -16,3 +16,5 @@ mod EndingLemmas
 mod CountLemmas
 mod OrderLemmas
 mod PickLemmas
+mod StepLemmas
+mod TurnedLemmas

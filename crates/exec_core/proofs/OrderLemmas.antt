@@ -1,8 +1,10 @@
 -- What a turn leaves in a list whose order is kept: the list without the element at an index, or with another element there.
-use Rattle.std.proofs.Common.{◌≡◌, ◌≢◌, ℕ, suc, ◌+◌, ◌-◌, ◌<◌, ◌≤◌, List, [], ◌∷◌, ◌++◌, length, map, take, drop, get_or, set, sym, ap, ◌∙◌, subst, arith}
+use Rattle.std.proofs.Common.{◌≡◌, ◌≢◌, ℕ, suc, ◌+◌, ◌-◌, ◌<◌, ◌≤◌, List, [], ◌∷◌, ◌++◌, length, map, take, drop, get_or, slice_get, Some, set, sym, ap, ◌∙◌, subst, arith}
 use Rattle.std.proofs.Common.{append-nil, ⊎_elim, refl}
 use Rattle.std.specs.List.{swap_remove, remove, swap, take-map, drop-map}
-use Rattle.std.specs.List.Sorted.{IsNonDecreasingBy}
+use Rattle.std.specs.List.Sorted.{IsPermutation, IsNonDecreasingBy}
+use Rattle.std.proofs.lemmas.List.Sorted.{IsPermutation-trans, IsPermutation-sym, IsPermutation-to_front, IsPermutation-swap_remove}
+use Rattle.std.proofs.lemmas.Option.{get_or_from_slice_get, slice_get_read}
 use Rattle.std.proofs.lemmas.Bool.{cases_lt, cases_eq}
 use Rattle.std.proofs.lemmas.List.{same_lists, length-set, length-take-le, length-append, length-map, map-append, map-set, get_or-map, get_or-take}
 use Rattle.std.proofs.lemmas.List.{get_or-set_same, get_or-set_other, get_or_append_left, get_or_at, get_or_default}
@@ -10,6 +12,8 @@ use Rattle.std.proofs.lemmas.List.Edits.{length-remove, get_or-remove_below, get
 use Rattle.std.proofs.Math.Seq.{map-set_same}
 use Rattle.picker.specs.declared.picker.Offer.{Offer}
 use Rattle.exec_core.specs.Picked.{offer_of, AreOffered, IsReplaced}
+use Rattle.exec_core.specs.declared.in_place.Taken.{Taken}
+use Rattle.exec_core.specs.declared.in_place.Taken.TheVariants.{GoesOn, Ended}
 use Rattle.exec_core.specs.declared.execution.Execution.{Execution as Concrete}
 
 -- the order by a number of each element is that of these numbers
@@ -81,80 +85,72 @@ module _ {X : Type 0} (before : List X) (at : ℕ) (l : at < length before) (tak
       get_or_at (remove rest at) y [] d k (sym last) ∙ r ∙ get_or_default rest at y d h ∙ rest_at d (omega arith)
       ∙ ap (λ i. get_or before i d) (sym here) ∙ sym (get_or-remove_above before at d k c l)) (cases_lt k (length (remove rest at)))) (cases_lt k at))
 
-  -- another one was put at the end, and goes to its place
-  pub put_there : (y : X) (lives after : List X) → lives ≡ swap_remove before at taken ++ y ∷ [] → after ≡ swap lives at (length before - 1)
-      → after ≡ set before at y
-  put_there y lives after e s =
-      let n = length_rest in let q = ap length e ∙ length-append rest (y ∷ []) in let w = ap length s ∙ length-swap lives at (length before - 1) in let m =
-      length-set before at y in
-      same_lists after (set before at y) (omega arith) (λ k d b.
-      let swapped = swapped_from_swap lives after at (length before - 1) d (omega arith) (omega arith) s in
-      let behind : get_or lives (length before - 1) d ≡ y = ap (λ zs. get_or zs (length before - 1) d) e
-      ∙ get_or_at rest y [] d (length before - 1) (omega arith) in
-      ⊎_elim
-      (λ (c : k ≡ at). ap (λ i. get_or after i d) c ∙ swapped.0 ∙ behind ∙ sym (ap (λ i. get_or (set before at y) i d) c ∙ get_or-set_same before at y d l))
-      (λ (c : k ≢ at). ⊎_elim
-      (λ (f : k ≡ length before - 1).
-      ap (λ i. get_or after i d) f ∙ swapped.1 ∙ ap (λ zs. get_or zs at d) e ∙ get_or_append_left rest (y ∷ []) d at (omega arith) ∙ rest_at d (omega arith)
-      ∙ ap (λ i. get_or before i d) (sym f) ∙ sym (get_or-set_other before at k y d c))
-      (λ (f : k ≢ length before - 1).
-      swapped.2 k c f ∙ ap (λ zs. get_or zs k d) e ∙ get_or_append_left rest (y ∷ []) d k (omega arith) ∙ rest_other k d c (omega arith)
-      ∙ sym (get_or-set_other before at k y d c)) (cases_eq k (length before - 1))) (cases_eq k at))
+-- where another element stood at the index, the same is left
+pub left_same : {X : Type 0} (xs : List X) (at : ℕ) → at < length xs → (x y : X) → swap_remove (set xs at y) at y ≡ swap_remove xs at x
+left_same xs at l x y =
+    let k = length-set xs at y in let m : at < length (set xs at y) = omega arith in
+    let n = length_rest xs at l x in let o = length_rest (set xs at y) at m y in
+    same_lists (swap_remove (set xs at y) at y) (swap_remove xs at x) (omega arith) (λ i d b.
+    ⊎_elim
+    (λ (c : i ≡ at). ap (λ j. get_or (swap_remove (set xs at y) at y) j d) c ∙ rest_at (set xs at y) at m y d (omega arith)
+    ∙ ap (λ j. get_or (set xs at y) (j - 1) d) k ∙ get_or-set_other xs at (length xs - 1) y d (λ e. absurd (omega arith))
+    ∙ sym (ap (λ j. get_or (swap_remove xs at x) j d) c ∙ rest_at xs at l x d (omega arith)))
+    (λ (c : i ≢ at). rest_other (set xs at y) at m y i d c (omega arith) ∙ get_or-set_other xs at i y d c
+    ∙ sym (rest_other xs at l x i d c (omega arith))) (cases_eq i at))
 
-none_made : {X : Type 0} (xs : List X) → length xs ≡ 0 → xs ≡ []
-none_made [] h = refl
-none_made (x ∷ xs) h = absurd (omega arith)
+-- those that are left and another element are the list with that element at the index
+pub set_moved : {X : Type 0} (xs : List X) (at : ℕ) → at < length xs → (x y : X) → IsPermutation (swap_remove xs at x ++ y ∷ []) (set xs at y)
+set_moved xs at l x y =
+    let k = length-set xs at y in
+    let out = IsPermutation-swap_remove (set xs at y) at y (omega arith) (sym (get_or-set_same xs at y y l)) in
+    IsPermutation-trans _ _ _ (IsPermutation-to_front (swap_remove xs at x) y) (IsPermutation-sym _ _
+    (subst (λ ys. IsPermutation (set xs at y) (y ∷ ys)) (left_same xs at l x y) out))
 
-one_made : {X : Type 0} (xs : List X) → length xs ≡ 1 → (y : X) × (xs ≡ y ∷ [])
-one_made [] h = absurd (omega arith)
-one_made (x ∷ xs) h = (x, ap (λ ys. x ∷ ys) (none_made xs (omega arith)))
+-- what stands at an index
+pub set_there : {X : Type 0} (xs : List X) (at : ℕ) (y : X) → at < length xs → slice_get (set xs at y) at ≡ Some y
+set_there xs at y l = let k = length-set xs at y in slice_get_read (set xs at y) (length (set xs at y)) at y refl (omega arith) (sym (get_or-set_same xs at y y l))
+
+pub there_now : {X : Type 0} (xs : List X) (at : ℕ) (y e : X) → at < length xs → slice_get (set xs at y) at ≡ Some e → e ≡ y
+there_now xs at y e l h = sym (get_or_from_slice_get (set xs at y) at e e h) ∙ get_or-set_same xs at y e l
+
+pub same_there : {X : Type 0} (xs : List X) (at : ℕ) (x y : X) → slice_get xs at ≡ Some x → slice_get xs at ≡ Some y → x ≡ y
+same_there xs at x y g h = sym (get_or_from_slice_get xs at x x g) ∙ get_or_from_slice_get xs at y x h
 
 -- what a picker sees of the executions after a turn of the one at an index
 module _ {S : Type 0} (before lives after : List (Concrete S)) (offers offers_after : List Offer) (at : ℕ)
-    (seen : AreOffered before offers) (left : IsReplaced at before lives) (l : at < length offers) where
+    (seen : AreOffered before offers) (l : at < length offers) where
   abbrev least : Concrete S → ℕ
   least x = get_or x.members 0 0
 
-  as_many : length before ≡ length offers
-  as_many = sym (ap length seen.are ∙ length-map before offer_of)
-
   here : at < length before
-  here = let n = as_many in omega arith
-
-  length_left : length lives + 1 ≡ length before + length left.made
-  length_left =
-      let a = ap length left.are in let b = length-append (swap_remove before at left.taken) left.made in let c = length_rest before at here left.taken in
-      omega arith
+  here = let n = ap length seen.are in let m = length-map before offer_of in omega arith
 
   -- it has ended
-  pub offered_without : length lives + 1 ≡ length offers
+  pub offered_without : IsReplaced Ended at before lives
       → ((xs : List (Concrete S)) (taken : Concrete S) → at < length xs → lives ≡ swap_remove xs at taken → after ≡ remove xs at)
       → offers_after ≡ remove offers at → AreOffered after offers_after
-  offered_without n order gone =
-      let rest = swap_remove before at left.taken in
-      let none : left.made ≡ [] = none_made left.made (let a = length_left in let b = as_many in omega arith) in
-      let o : after ≡ remove before at = order before left.taken here (left.are ∙ ap (λ ys. rest ++ ys) none ∙ append-nil rest) in
+  offered_without left order gone =
+      let o : after ≡ remove before at = order before left.0 here left.1 in
       record {
         rising = subst (IsNonDecreasingBy least) (sym o) (rising_without least before at here seen.rising);
         are = gone ∙ ap (λ xs. remove xs at) seen.are ∙ sym (map-remove offer_of before at) ∙ ap (map offer_of) (sym o);
       }
 
-  -- it is one with the same least member
-  pub offered_with : length lives ≡ length offers
-      → ((xs : List (Concrete S)) (taken made : Concrete S) → at < length xs → lives ≡ swap_remove xs at taken ++ made ∷ [] → after ≡ set xs at made)
-      → (x : Concrete S) (now was : Offer) → x ≡ get_or lives (length offers - 1) x → now ≡ offer_of x → was ≡ get_or offers at was → now.least ≡ was.least
-      → offers_after ≡ set offers at now → AreOffered after offers_after
-  offered_with n order x now was there is seen_before same written =
-      let rest = swap_remove before at left.taken in let a = as_many in let h = here in
-      let one = one_made left.made (let b = length_left in omega arith) in let y = one.0 in
-      let e : lives ≡ rest ++ y ∷ [] = left.are ∙ ap (λ ys. rest ++ ys) one.1 in
-      let last : length rest ≡ length offers - 1 = (let b = length_rest before at here left.taken in omega arith) in
-      let found : x ≡ y = there ∙ ap (λ zs. get_or zs (length offers - 1) x) e ∙ get_or_at rest y [] x (length offers - 1) last in
-      let o : after ≡ set before at y = order before left.taken y here e in
-      let shown : was ≡ offer_of (get_or before at y) = seen_before ∙ ap (λ zs. get_or zs at was) seen.are ∙ get_or-map offer_of before at y was here in
-      let key : least y ≡ least (get_or before at y) = ap least (sym found) ∙ ap (λ (z : Offer). z.least) (sym is) ∙ same ∙ ap (λ (z : Offer). z.least) shown in
+  -- it goes on in its place
+  pub offered_there : IsReplaced GoesOn at before lives → (x : Concrete S) (now : Offer) → x ≡ get_or lives at x → now ≡ offer_of x
+      → offers_after ≡ set offers at now → AreOffered lives offers_after
+  offered_there left x now there is written =
+      let made = left.0 in let o = left.2 in
+      let found : x ≡ made = there ∙ ap (λ zs. get_or zs at x) o ∙ get_or-set_same before at made x here in
       record {
-        rising = subst (IsNonDecreasingBy least) (sym o) (same_order least (set before at y) before (map-set_same least before at y y key) seen.rising);
-        are = written ∙ ap (λ zs. set zs at now) seen.are ∙ ap (set (map offer_of before) at) (is ∙ ap offer_of found) ∙ sym (map-set offer_of before at y)
+        rising = subst (IsNonDecreasingBy least) (sym o) (same_order least (set before at made) before
+            (map-set_same least before at made made (ap (λ ms. get_or ms 0 0) left.1)) seen.rising);
+        are = written ∙ ap (λ zs. set zs at now) seen.are ∙ ap (set (map offer_of before) at) (is ∙ ap offer_of found) ∙ sym (map-set offer_of before at made)
             ∙ ap (map offer_of) (sym o);
       }
+
+pub there_still : {S : Type 0} (before lives : List (Concrete S)) (offers : List Offer) (at : ℕ) (taken : Taken) → taken ≡ GoesOn
+    → IsReplaced taken at before lives → AreOffered before offers → at < length offers → at < length lives
+there_still {S} before lives offers at taken is left seen l =
+    let r : IsReplaced GoesOn at before lives = subst (λ (t : Taken). IsReplaced {S = S} t at before lives) is left in
+    let n = ap length seen.are in let m = length-map before offer_of in let k = ap length r.2 in let j = length-set before at r.0 in omega arith

@@ -1,15 +1,19 @@
 -- Parts by the classes of variants are the parts of a turn.
-use Rattle.std.proofs.Common.{◌≡◌, ℕ, ◌<◌, true, ◌==◌, List, length, map, slice_index, refl, sym, ap, ◌∙◌, subst, arith}
+use Rattle.std.proofs.Common.{◌≡◌, ℕ, suc, one-add, ◌<◌, Bool, true, ◌==◌, List, [], ◌∷◌, length, map, slice_index, get_or, slice_get, Some, refl, sym, ap, ◌∙◌, subst, arith}
 use Rattle.std.specs.List.{Contains, filter, list_any, position_or_len}
 use Rattle.std.proofs.lemmas.Bool.{eqb-true, eq-eqb}
 use Rattle.std.proofs.lemmas.List.{get_or-map, get_or_default, length-map, take_all}
+use Rattle.std.proofs.lemmas.List.Elements.{Contains-get_or}
+use Rattle.std.proofs.lemmas.Option.{get_or_from_slice_get}
 use Rattle.std.proofs.lemmas.Map.Views.{Contains-from_any}
 use Rattle.std.proofs.lemmas.Simd.{map-map}
 use Rattle.traces.specs.Meanings.{IsSameTest}
 use Rattle.traces.specs.Trace.{Trial}
 use Rattle.traces.specs.Trace.{change_of}
 use Rattle.traces.specs.Configuration.{Execution, same_change, is_leader, part, parts, variant_in, variants_of}
-use Rattle.traces.proofs.Turns.{any_from}
+use Rattle.traces.proofs.Bools.{on_bool}
+use Rattle.traces.proofs.Lists.{from_filter}
+use Rattle.traces.proofs.Turns.{any_from, some_from}
 use Rattle.traces.proofs.Plans.{same_place, parts_same}
 use Rattle.change_classes.specs.First.{first_equal}
 use Rattle.member_sets.specs.Members.{IsMemberList, is_class_leader, class_at, parts_by}
@@ -19,7 +23,8 @@ use Rattle.exec_core.specs.Plans.{own_firsts, plans_of, plans_at}
 use Rattle.exec_core.specs.declared.plan.Plan.{Plan}
 use Rattle.exec_core.proofs.ChangeLemmas.{leading_changes, pairs_are}
 use Rattle.exec_machine.proofs.Numbers.{flips}
-use Rattle.exec_core.proofs.ChildLemmas.{contains_map}
+use Rattle.exec_core.proofs.ChildLemmas.{contains_map, map_where}
+use Rattle.member_sets.proofs.Parts.{one_part}
 use Rattle.member_sets.proofs.Firsts.{any_firsts}
 
 contained : (x : ℕ) (xs : List ℕ) → list_any (λ c. c == x) xs ≡ true → Contains xs x
@@ -91,19 +96,6 @@ module _ {S C : Type 0} (T : Trial S C) (same : IsSameTest T.meanings) (e : Exec
     within_table m c = subst (λ q. T.variant m q < length table) (sym here)
         (All-contains (λ v. v < length table) (variants_of T e) (variant_in T e m) has.within (there T same e is table m c))
 
-    -- the class of a member is one of the numbers
-    pub among_numbers : (m : ℕ) → Contains e.members m → Contains ns (class_at T.variant p table m)
-    among_numbers m c =
-        let v = variant_in T e m in let xs = variants_of T e in let next : ℕ → C = λ u. T.meanings.next u e.state in
-        let numbers = first_equal T.meanings.same (map next xs) in
-        let t = there T same e is table m c in let i = t.0 in
-        let l : i < length numbers = (let a = length-map xs next in let b =
-        length-map (map next xs) (λ x. position_or_len (λ y. T.meanings.same y x) (map next xs)) in let k = t.1 in omega arith) in
-        let at : slice_index xs i ≡ v = (get_or_default xs i 0 v t.1 ∙ t.2) in
-        let is : slice_index table v ≡ slice_index numbers i = (ap (slice_index table) (sym at) ∙ has.class i t.1) in
-        subst (λ ys. Contains ys (slice_index table (T.variant m p))) (sym (grouped ∙ ap (first_equal T.meanings.same) made_is))
-        (subst (λ q. Contains numbers (slice_index table (T.variant m q))) (sym here) (i, l, get_or_default numbers i (slice_index table v) 0 l ∙ sym is))
-
     pub parts_planned : {ps : List (List ℕ)} → ps ≡ parts_by (class_at T.variant p table) e.members
         → ps ≡ of_leaders (λ m. filter (same_change T e m) e.members)
     parts_planned f = f ∙ ap (λ q. parts_by (class_at T.variant q table) e.members) here ∙ parts_are T same e is table has
@@ -114,3 +106,49 @@ module _ {S C : Type 0} (T : Trial S C) (same : IsSameTest T.meanings) (e : Exec
   planned plans a b f g =
       pairs_are (λ m. filter (same_change T e m) e.members) (λ m. change_of T m e.state) (filter (is_leader T e) e.members) (plans_of plans)
       (map-map (λ x. x.0) (λ (x : Plan C). (x.members, x.change)) plans ∙ a ∙ f) (map-map (λ x. x.1) (λ (x : Plan C). (x.members, x.change)) plans ∙ b ∙ g)
+
+-- members that make one change are one part
+module _ {S C : Type 0} (T : Trial S C) (same : IsSameTest T.meanings) (e : Execution S) (is : IsMemberList e.members)
+    {vs : List ℕ} (tried : vs ≡ variants_of T e) {cs : List C} (made : cs ≡ map (λ v. T.meanings.next v e.state) vs) where
+  among_changes : (m : ℕ) → Contains e.members m → Contains cs (change_of T m e.state)
+  among_changes m i = subst (λ ds. Contains ds (change_of T m e.state)) (sym (made ∙ ap (map (λ v. T.meanings.next v e.state)) tried))
+      (contains_map (λ v. T.meanings.next v e.state) (variants_of T e) (variant_in T e m) (there T same e is [] m i))
+
+  pub some_change : 0 < length cs
+  some_change = let m = get_or e.members 0 0 in some_from cs (change_of T m e.state) (among_changes m (Contains-get_or e.members 0 0 is.some))
+
+  module _ (c : C) (all : (d : C) → Contains cs d → d ≡ c) where
+    change_is : (m : ℕ) → Contains e.members m → change_of T m e.state ≡ c
+    change_is m i = all (change_of T m e.state) (among_changes m i)
+
+    alike : (m k : ℕ) → Contains e.members m → Contains e.members k → (0 == 0) ≡ same_change T e m k
+    alike m k i j = eq-eqb 0 0 refl ∙ sym (subst (λ x. T.meanings.same x (change_of T k e.state) ≡ true) (sym (change_is m i ∙ sym (change_is k j)))
+        (same.complete (change_of T k e.state)))
+
+    one_group : map (λ m. filter (same_change T e m) e.members) (filter (is_leader T e) e.members) ≡ e.members ∷ []
+    one_group = sym (parts_same (λ m k. 0 == 0) (same_change T e) e.members alike) ∙ one_part (λ m. 0) e.members is (λ k d l. refl)
+
+    pub one_plan : (e.members, c) ∷ [] ≡ plans_at T e
+    one_plan = ap (map (λ (ms : List ℕ). (ms, c))) (sym one_group)
+        ∙ map-map (λ (ms : List ℕ). (ms, c)) (λ m. filter (same_change T e m) e.members) (filter (is_leader T e) e.members)
+        ∙ map_where (λ m. (filter (same_change T e m) e.members, c)) (λ m. (filter (same_change T e m) e.members, change_of T m e.state))
+        (filter (is_leader T e) e.members)
+        (λ m i. ap (λ (d : C). (filter (same_change T e m) e.members, d)) (sym (change_is m (from_filter (is_leader T e) e.members m i).0)))
+
+-- a list of one change, or of changes all of which are equal to the first
+pub lone : {X : Type 0} (xs : List X) (c : X) → length xs ≡ 1 → slice_get xs 0 ≡ Some c → (d : X) → Contains xs d → d ≡ c
+lone xs c n h d (i, l, e) = let z : i ≡ 0 = omega arith in sym e ∙ ap (λ k. get_or xs k d) z ∙ get_or_from_slice_get xs 0 c d h
+
+at_front : {X : Type 0} (p : X → Bool) (xs : List X) (d : X) → 0 < length xs → position_or_len p xs ≡ 0 → p (get_or xs 0 d) ≡ true
+at_front p [] d l h = absurd (omega arith)
+at_front p (x ∷ xs) d l h = on_bool (p x) (λ t. t) (λ f. let e : suc (position_or_len p xs) ≡ 0 = (sym (rw f (one-add (position_or_len p xs))) ∙ h) in
+    absurd (omega arith))
+
+pub all_alike : {X : Type 0} (same : X → X → Bool) → ((x y : X) → same x y ≡ true → x ≡ y) → (xs : List X) (ns : List ℕ) (c : X)
+    → ns ≡ first_equal same xs → ((k : ℕ) → k < length ns → slice_index ns k ≡ 0) → slice_get xs 0 ≡ Some c → (d : X) → Contains xs d → d ≡ c
+all_alike {X = X} same sound xs ns c g z h d (i, l, e) =
+    let place : X → ℕ = λ x. position_or_len (λ y. same y x) xs in
+    let n = length-map xs place in let m = ap length g in
+    let zero : place d ≡ 0 = ap place (sym e) ∙ sym (get_or-map place xs i d 0 l) ∙ ap (λ ks. slice_index ks i) (sym g) ∙ z i (omega arith) in
+    let front = at_front (λ y. same y d) xs d (omega arith) zero in
+    sym (sound (get_or xs 0 d) d front) ∙ get_or_from_slice_get xs 0 c d h

@@ -5,7 +5,7 @@ use Rattle.std.specs.List.{All, Contains, sum_by, filter}
 use Rattle.std.proofs.Math.Nat.{mul-le-mul_right}
 use Rattle.std.proofs.lemmas.Bool.{lt-ltb, le-ltb, and_from, cases_lt, false≢true}
 use Rattle.std.proofs.lemmas.List.{get_or_default}
-use Rattle.std.proofs.lemmas.List.Elements.{All-contains, Contains-get_or}
+use Rattle.std.proofs.lemmas.List.Elements.{All-contains, All-map, Contains-get_or}
 use Rattle.std.proofs.lemmas.List.Kept.{IsStrictlyIncreasing-filter}
 use Rattle.std.proofs.lemmas.List.Sums.{length-filter, count_by-le-length, sum_by-cons}
 use Rattle.std.proofs.lemmas.Simd.{map-map}
@@ -22,11 +22,11 @@ use Rattle.member_sets.specs.Members.{IsMemberList}
 use Rattle.member_sets.proofs.Parts.{first_least}
 use Rattle.exec_core.specs.Counted.{weight_of_turn}
 use Rattle.exec_core.specs.Plans.{plans_of, plans_at, plan_weights}
-use Rattle.exec_core.specs.Turned.{split_made}
 use Rattle.exec_core.specs.declared.plan.Plan.{Plan}
+use Rattle.exec_core.specs.Turned.{split_made}
 use Rattle.exec_core.proofs.ChangeLemmas.{any_alike, none_any}
 use Rattle.exec_core.proofs.Holding.{All-from_contains}
-use Rattle.exec_core.proofs.ChildLemmas.{map_where, contains_map}
+use Rattle.exec_core.proofs.ChildLemmas.{map_where}
 
 map_same : (xs : List ℕ) → map (λ x. x) xs ≡ xs
 map_same [] = refl
@@ -73,12 +73,9 @@ module _ {S C : Type 0} (T : Trial S C) (same : IsSameTest T.meanings) (e : Exec
       (and_from _ _ (lt-ltb x m l) (subst (λ d. T.meanings.same d (change_of T m e.state) ≡ true) (same.sound _ _ there.1) (same.complete _))))) ∙ f.1)))
       (λ (g : m ≤ x). let r : x ≡ m = omega arith in r) (cases_lt x m)
 
-  module _ (plans : List (Plan C)) (h : plans_of plans ≡ plans_at T e) where
-    abbrev pair : Plan C → List ℕ × C
-    pair p = (p.members, p.change)
-
-    pub count_leaders : length plans ≡ length leaders
-    count_leaders = sym (length_map pair plans) ∙ ap length h ∙ length_map (λ m. (filter (same_change T e m) e.members, change_of T m e.state)) leaders
+  module _ {plans : List (List ℕ × C)} (h : plans ≡ plans_at T e) where
+    count_leaders : length plans ≡ length leaders
+    count_leaders = ap length h ∙ length_map (λ m. (filter (same_change T e m) e.members, change_of T m e.state)) leaders
 
     pub some_plan : 0 < length plans
     some_plan = let a = count_leaders in let b = some_leader in omega arith
@@ -89,42 +86,44 @@ module _ {S C : Type 0} (T : Trial S C) (same : IsSameTest T.meanings) (e : Exec
     pub as_many_parts : length plans ≡ length (parts T e)
     as_many_parts = count_leaders ∙ sym (length_map (part T e) leaders)
 
-    least_are : map (λ p. slice_index p.members 0) plans ≡ leaders
-    least_are =
-        sym (map-map (λ (x : List ℕ × C). slice_index x.0 0) pair plans) ∙ ap (map (λ (x : List ℕ × C). slice_index x.0 0)) h
+    least_are : map (λ (x : List ℕ × C). slice_index x.0 0) plans ≡ leaders
+    least_are = ap (map (λ (x : List ℕ × C). slice_index x.0 0)) h
         ∙ map-map (λ (x : List ℕ × C). slice_index x.0 0) (λ m. (filter (same_change T e m) e.members, change_of T m e.state)) leaders
         ∙ map_where (λ m. slice_index (filter (same_change T e m) e.members) 0) (λ m. m) leaders least_of_part ∙ map_same leaders
 
-    pub split_is : (if nat_lt 1 (length plans) then (e.step, map (λ p. slice_index p.members 0) plans) ∷ [] else []) ≡ split_made T e
-    split_is = ap (λ n. if nat_lt 1 n then (e.step, map (λ (p : Plan C). slice_index p.members 0) plans) ∷ [] else []) count_leaders
+    pub split_is : (if nat_lt 1 (length plans) then (e.step, map (λ (x : List ℕ × C). slice_index x.0 0) plans) ∷ [] else []) ≡ split_made T e
+    split_is = ap (λ n. if nat_lt 1 n then (e.step, map (λ (x : List ℕ × C). slice_index x.0 0) plans) ∷ [] else []) count_leaders
         ∙ ap (λ ms. if nat_lt 1 (length leaders) then (e.step, ms) ∷ [] else []) least_are
 
-    pub weight_is : plan_weights T.meanings.weight (plans_of plans) ≡ weight_of_turn T e
-    weight_is = ap (plan_weights T.meanings.weight) h ∙ sum_by-map (λ (x : List ℕ × C). T.meanings.weight x.1)
-        (λ m. (filter (same_change T e m) e.members, change_of T m e.state)) leaders
-
     module _ (knows : (m : ℕ) → T.meanings.knows (T.meanings.place e.state) (T.variant m (T.meanings.place e.state)) ≡ true) where
-      known_at : (x : List ℕ × C) → Contains (plans_at T e) x → IsKnown T.meanings e.state x.1
-      known_at x c = All-contains (λ y. IsKnown T.meanings e.state y.1) (plans_at T e) x
-          (Rattle.std.proofs.lemmas.List.Elements.All-map (λ y. IsKnown T.meanings e.state y.1)
-          (λ m. (filter (same_change T e m) e.members, change_of T m e.state)) leaders
+      pub known_plans : All (λ p. IsKnown T.meanings e.state p.1) plans
+      known_plans = subst (All (λ p. IsKnown T.meanings e.state p.1)) (sym h)
+          (All-map (λ y. IsKnown T.meanings e.state y.1) (λ m. (filter (same_change T e m) e.members, change_of T m e.state)) leaders
           (All-from_contains (λ m. IsKnown T.meanings e.state (change_of T m e.state)) leaders
-          (λ m d. record { variant = T.variant m (T.meanings.place e.state); knows = knows m; is = refl }))) c
-
-      known_plan : (p : Plan C) → Contains plans p → IsKnown T.meanings e.state p.change
-      known_plan p c = known_at (pair p) (subst (λ xs. Contains xs (pair p)) h (contains_map pair plans p c))
-
-      pub known_plans : All (λ p. IsKnown T.meanings e.state p.change) plans
-      known_plans = All-from_contains (λ p. IsKnown T.meanings e.state p.change) plans known_plan
+          (λ m d. record { variant = T.variant m (T.meanings.place e.state); knows = knows m; is = refl })))
 
       module _ (light : IsLight T.meanings) (live : T.meanings.ended e.state ≡ false) where
         light_change : (c : C) → IsKnown T.meanings e.state c → T.meanings.weight c ≤ 65536
         light_change c k = subst (λ d. T.meanings.weight d ≤ 65536) (sym k.is) (light.weight k.variant e.state live k.knows)
 
-        pub light_plans : plan_weights T.meanings.weight (plans_of plans) ≤ MAX_MUTANTS * 65536
+        pub light_plans : plan_weights T.meanings.weight plans ≤ MAX_MUTANTS * 65536
         light_plans =
-            let a = sum_within (λ (x : List ℕ × C). T.meanings.weight x.1) 65536 (plans_of plans)
-            (λ x c. light_change x.1 (known_at x (subst (λ xs. Contains xs x) h c))) in
-            let n = length_map pair plans in
-            let few : length (plans_of plans) ≤ MAX_MUTANTS = (let k = few_plans in omega arith) in
-            let b : length (plans_of plans) * 65536 ≤ MAX_MUTANTS * 65536 = mul-le-mul_right 65536 few in omega arith
+            let a = sum_within (λ (x : List ℕ × C). T.meanings.weight x.1) 65536 plans
+            (λ x c. light_change x.1 (All-contains (λ p. IsKnown T.meanings e.state p.1) plans x known_plans c)) in
+            let b : length plans * 65536 ≤ MAX_MUTANTS * 65536 = mul-le-mul_right 65536 few_plans in omega arith
+
+pub weight_is : {S C : Type 0} (T : Trial S C) (e : Execution S) {plans : List (List ℕ × C)} → plans ≡ plans_at T e
+    → plan_weights T.meanings.weight plans ≡ weight_of_turn T e
+weight_is {S} {C} T e h = ap (plan_weights T.meanings.weight) h ∙ sum_by-map (λ (x : List ℕ × C). T.meanings.weight x.1)
+    (λ m. (filter (same_change T e m) e.members, change_of T m e.state)) (filter (is_leader T e) e.members)
+
+-- the split that was written down, of plans as they are seen
+abbrev noted : ℕ → ℕ → List ℕ → List (ℕ × List ℕ)
+noted n step members = if nat_lt 1 n then (step, members) ∷ [] else []
+
+pub split_pairs : {C : Type 0} (step : ℕ) (plans : List (Plan C)) → noted (length plans) step (map (λ (p : Plan C). slice_index p.members 0) plans)
+    ≡ noted (length (plans_of plans)) step (map (λ (p : List ℕ × C). slice_index p.0 0) (plans_of plans))
+split_pairs {C = C} step plans =
+    let pair : Plan C → List ℕ × C = λ p. (p.members, p.change) in
+    ap (λ n. noted n step (map (λ (p : Plan C). slice_index p.members 0) plans)) (sym (length_map pair plans))
+    ∙ ap (noted (length (plans_of plans)) step) (sym (map-map (λ (x : List ℕ × C). slice_index x.0 0) pair plans))

@@ -1,7 +1,7 @@
 -- The executions through a turn.
 use Rattle.std.proofs.Common.{◌≡◌, ◌≢◌, ℕ, ◌<◌, true, false, not, ◌&&◌, nat_lt, List, [], ◌∷◌, ◌++◌, length, map, get_or, slice_get, Some, nat_eq, refl, sym}
 use Rattle.std.proofs.Common.{ap, ◌∙◌, subst, arith, append_assoc}
-use Rattle.std.specs.Prelude.{Result, Ok, Err, OnErr}
+use Rattle.std.specs.Prelude.{Result, Ok, Err, OnErr, OnOk}
 use Rattle.std.specs.List.{All, Contains, swap_remove}
 use Rattle.std.specs.List.Sorted.{IsPermutation}
 use Rattle.std.proofs.lemmas.Bool.{true≢false, eq-eqb, not-true, and_parts, ltb-true}
@@ -11,13 +11,13 @@ use Rattle.std.proofs.lemmas.List.Elements.{Contains-append_right}
 use Rattle.std.proofs.lemmas.List.Sorted.{IsPermutation-refl, IsPermutation-sym, IsPermutation-trans, IsPermutation-map, IsPermutation-append_left}
 use Rattle.std.proofs.lemmas.List.Sorted.{IsPermutation-append_right, IsPermutation-append_comm, IsPermutation-middle, IsPermutation-to_front, All-permutation}
 use Rattle.std.proofs.lemmas.List.Sorted.{Contains-permutation, IsPermutation-swap_remove, length_permutation}
-use Rattle.std.proofs.lemmas.Option.{slice_get_read}
+use Rattle.std.proofs.lemmas.Option.{slice_get_read, slice_get_within, get_or_from_slice_get}
 use Rattle.std.proofs.lemmas.Map.Keys.{IsDistinct-head, IsDistinct-IsPermutation}
 use Rattle.traces.specs.View.{View, IsLawful, Keeps}
 use Rattle.traces.proofs.Permutations.{cancel_front}
 use Rattle.traces.proofs.Lists.{contains_here}
 use Rattle.traces.proofs.Steps.{length_map}
-use Rattle.exec_core.specs.Executions.{execution_of, state_numbers, goes_on, IsExecutionBack, AreSettledAfter}
+use Rattle.exec_core.specs.Executions.{execution_of, state_numbers, goes_on, IsExecutionBack, IsPutBack, AreSettledAfter}
 use Rattle.exec_core.specs.Divided.{child_of, Divided}
 use Rattle.exec_core.specs.Turned.{executions_of, IsHeld, Advanced}
 use Rattle.exec_core.specs.declared.execution.Execution.{Execution as Concrete}
@@ -37,13 +37,13 @@ module _ {M S W C : Type 0} {V : View M S W C} where
       → before ≡ []
       → Divided V a e c plans before made → AreSettledAfter V c budget made lives_before lives ended_before ended
       → Advanced V a c budget e plans lives_before lives ended_before ended
-  advanced {a} {c} {budget} {e} {plans} {before} {made} none d s =
+  advanced {a} {c} {budget} {e} {plans} {before} {made} {lives_before} none d s =
       let same : made ≡ d.made = d.added ∙ ap (λ xs. xs ++ d.made) none in
       let moved : IsPermutation d.made (s.live ++ s.over) = subst (λ xs. IsPermutation xs (s.live ++ s.over)) same s.settled.moved in
       record {
         live = s.live;
         over = s.over;
-        lives_are = s.lives_are;
+        lives_are = subst (IsPermutation (lives_before ++ s.live)) (sym s.lives_are) (IsPermutation-refl _);
         ended_are = s.ended_are;
         all_live = s.settled.live;
         all_over = s.settled.over;
@@ -54,6 +54,10 @@ module _ {M S W C : Type 0} {V : View M S W C} where
             d.numbers;
         keeps = d.keeps;
       }
+
+  pub made_out : {a c : M} {e : Concrete S} {plans : List (List ℕ × C)} {before after : List (Concrete S)} → before ≡ []
+      → Divided V a e c plans before after → All (λ l. V.is_out c l.state) after
+  made_out {c = c} none d = subst (All (λ l. V.is_out c l.state)) (sym (d.added ∙ ap (λ xs. xs ++ d.made) none)) d.out
 
   -- what was advanced from a moment on at which the state stood for the same
   pub advanced_before : (lawful : IsLawful V) {a b c : M} {budget : ℕ} {e : Concrete S} {plans : List (List ℕ × C)}
@@ -148,52 +152,50 @@ module _ {M S W C : Type 0} {V : View M S W C} (lawful : IsLawful V) {a : M} {bu
         ∙ All-contains (λ x. goes_on V a budget x ≡ false) ended l h.over i)
 
     -- the execution came back
-    module _ {back : Concrete S} (b : IsExecutionBack V a c e back) where
-      back_moved : {X : Type 0} (f : Concrete S → X) → IsPermutation (f back ∷ map f (others ++ ended)) (map f ((others ++ back ∷ []) ++ ended))
-      back_moved f = IsPermutation-map f _ _ (IsPermutation-append_left ended _ _ (IsPermutation-sym _ _ (IsPermutation-to_front others back)))
+    module _ {back : Concrete S} (b : IsExecutionBack V a c e back) {lives_back : List (Concrete S)} (q : IsPermutation (others ++ back ∷ []) lives_back) where
+      back_first : IsPermutation (back ∷ others) lives_back
+      back_first = IsPermutation-trans _ _ _ (IsPermutation-sym _ _ (IsPermutation-to_front others back)) q
+
+      back_moved : {X : Type 0} (f : Concrete S → X) → IsPermutation (f back ∷ map f (others ++ ended)) (map f (lives_back ++ ended))
+      back_moved f = IsPermutation-map f _ _ (IsPermutation-append_left ended _ _ back_first)
 
       back_seen : execution_of V c back ≡ execution_of V a e
       back_seen = let s = b.step in let m = b.members in let w = b.state.stands in cc
 
-      pub same_executions : IsPermutation (executions_of V a lives ended) (executions_of V c (others ++ back ∷ []) ended)
+      pub same_executions : IsPermutation (executions_of V a lives ended) (executions_of V c lives_back ended)
       same_executions = IsPermutation-trans _ _
-          _ was_moved (subst (λ x. IsPermutation (x ∷ executions_of V a others ended) (executions_of V c (others ++ back ∷ []) ended)) back_seen
-          (subst (λ xs. IsPermutation (execution_of V c back ∷ xs) (executions_of V c (others ++ back ∷ []) ended)) kept_seen (back_moved (execution_of V c))))
+          _ was_moved (subst (λ x. IsPermutation (x ∷ executions_of V a others ended) (executions_of V c lives_back ended)) back_seen
+          (subst (λ xs. IsPermutation (execution_of V c back ∷ xs) (executions_of V c lives_back ended)) kept_seen (back_moved (execution_of V c))))
 
       back_goes_on : goes_on V c budget back ≡ true
       back_goes_on = ap (λ A. not (A.ended (V.stands c back.state)) && nat_lt back.step budget) k.meanings
           ∙ ap (λ w. not ((V.meanings a).ended w) && nat_lt back.step budget) b.state.stands
           ∙ ap (λ n. not ((V.meanings a).ended (V.stands a e.state)) && nat_lt n budget) b.step ∙ e_goes_on
 
-      pub held_back : IsHeld V c budget numbers (others ++ back ∷ []) ended
+      pub held_back : IsHeld V c budget numbers lives_back ended
       held_back = record {
-        out = All-permutation (λ l. V.is_out c l.state) _ _ (IsPermutation-append_left ended _ _ (IsPermutation-sym _ _ (IsPermutation-to_front others back)))
+        out = All-permutation (λ l. V.is_out c l.state) _ _ (IsPermutation-append_left ended _ _ back_first)
             (All-cons (λ l. V.is_out c l.state) back (others ++ ended) b.state.out kept_out);
         numbers = IsPermutation-trans _ _ _ (IsPermutation-sym _ _ b.state.numbers) (IsPermutation-trans _ _
             _ numbers_moved (IsPermutation-append_left numbers _ _
-            (subst (λ n. IsPermutation (n ∷ state_numbers V (others ++ ended)) (state_numbers V ((others ++ back ∷ []) ++ ended))) b.state.number
+            (subst (λ n. IsPermutation (n ∷ state_numbers V (others ++ ended)) (state_numbers V (lives_back ++ ended))) b.state.number
             (back_moved (λ l. V.number l.state)))));
-        live = All-append (λ l. goes_on V c budget l ≡ true) others (back ∷ []) kept_live
-            (All-cons (λ l. goes_on V c budget l ≡ true) back [] back_goes_on (All-nil (λ l. goes_on V c budget l ≡ true)));
+        live = All-permutation (λ l. goes_on V c budget l ≡ true) _ _ back_first (All-cons (λ l. goes_on V c budget l ≡ true) back others back_goes_on kept_live);
         over = kept_over;
       }
 
   -- the execution was divided
   module _ {c : M} {plans : List (List ℕ × C)} {lives_after ended_after : List (Concrete S)}
       (d : Advanced V a c budget e plans others lives_after ended ended_after) where
-    after_are : executions_of V c lives_after ended_after ≡ executions_of V c (others ++ d.live) (ended ++ d.over)
-    after_are = ap (λ xs. executions_of V c xs ended_after) d.lives_are ∙ ap (executions_of V c (others ++ d.live)) d.ended_are
-
-    both : IsPermutation ((others ++ ended) ++ (d.live ++ d.over)) ((others ++ d.live) ++ (ended ++ d.over))
-    both = grown others ended d.live d.over
+    both : IsPermutation ((others ++ ended) ++ (d.live ++ d.over)) (lives_after ++ ended_after)
+    both = IsPermutation-trans _ _ _ (grown others ended d.live d.over) (subst (λ xs. IsPermutation ((others ++ d.live) ++ (ended ++ d.over)) (lives_after ++ xs))
+        (sym d.ended_are) (IsPermutation-append_left (ended ++ d.over) _ _ d.lives_are))
 
     pub turned_executions : IsPermutation (executions_of V a others ended ++ map (child_of V a e) plans) (executions_of V c lives_after ended_after)
-    turned_executions =
-        subst (IsPermutation (executions_of V a others ended ++ map (child_of V a e) plans)) (sym after_are) (IsPermutation-trans _ _ _
-        (IsPermutation-append_right (executions_of V a others ended) _ _ d.seen)
-        (subst (λ xs. IsPermutation (xs ++ map (execution_of V c) (d.live ++ d.over)) (executions_of V c (others ++ d.live) (ended ++ d.over)))
-        (kept_seen d.keeps) (subst (λ xs. IsPermutation xs (executions_of V c (others ++ d.live) (ended ++ d.over)))
-        (map-append (execution_of V c) (others ++ ended) (d.live ++ d.over)) (IsPermutation-map (execution_of V c) _ _ both))))
+    turned_executions = IsPermutation-trans _ _ _ (IsPermutation-append_right (executions_of V a others ended) _ _ d.seen)
+        (subst (λ xs. IsPermutation (xs ++ map (execution_of V c) (d.live ++ d.over)) (executions_of V c lives_after ended_after))
+        (kept_seen d.keeps) (subst (λ xs. IsPermutation xs (executions_of V c lives_after ended_after))
+        (map-append (execution_of V c) (others ++ ended) (d.live ++ d.over)) (IsPermutation-map (execution_of V c) _ _ both)))
 
     new_numbers : IsPermutation (V.out_numbers c) (state_numbers V (d.live ++ d.over) ++ (state_numbers V (others ++ ended) ++ numbers))
     new_numbers =
@@ -202,19 +204,19 @@ module _ {M S W C : Type 0} {V : View M S W C} (lawful : IsLawful V) {a : M} {bu
         (IsPermutation-append_right made _ _ numbers_moved) (IsPermutation-middle made n rest)))
 
     pub held_on : IsHeld V c budget numbers lives_after ended_after
-    held_on = subst (λ xs. IsHeld V c budget numbers xs ended_after) (sym d.lives_are)
-        (subst (IsHeld V c budget numbers (others ++ d.live)) (sym d.ended_are) (record {
-          out = All-permutation (λ l. V.is_out c l.state) _ _ both
-              (All-append (λ l. V.is_out c l.state) (others ++ ended) (d.live ++ d.over) (kept_out d.keeps) d.out);
-          numbers = IsPermutation-trans _ _
-              _ new_numbers (subst (λ xs. IsPermutation xs (state_numbers V ((others ++ d.live) ++ (ended ++ d.over)) ++ numbers))
-              (append_assoc (state_numbers V (d.live ++ d.over)) (state_numbers V (others ++ ended)) numbers) (IsPermutation-append_left numbers _
-              _ (IsPermutation-trans _ _ _ (IsPermutation-append_comm (state_numbers V (d.live ++ d.over)) (state_numbers V (others ++ ended)))
-              (subst (λ xs. IsPermutation xs (state_numbers V ((others ++ d.live) ++ (ended ++ d.over))))
-              (map-append (λ l. V.number l.state) (others ++ ended) (d.live ++ d.over)) (IsPermutation-map (λ l. V.number l.state) _ _ both)))));
-          live = All-append (λ l. goes_on V c budget l ≡ true) others d.live (kept_live d.keeps) d.all_live;
-          over = All-append (λ l. goes_on V c budget l ≡ false) ended d.over (kept_over d.keeps) d.all_over;
-        }))
+    held_on = record {
+      out = All-permutation (λ l. V.is_out c l.state) _ _ both
+          (All-append (λ l. V.is_out c l.state) (others ++ ended) (d.live ++ d.over) (kept_out d.keeps) d.out);
+      numbers = IsPermutation-trans _ _ _ new_numbers (subst (λ xs. IsPermutation xs (state_numbers V (lives_after ++ ended_after) ++ numbers))
+          (append_assoc (state_numbers V (d.live ++ d.over)) (state_numbers V (others ++ ended)) numbers) (IsPermutation-append_left numbers _
+          _ (IsPermutation-trans _ _ _ (IsPermutation-append_comm (state_numbers V (d.live ++ d.over)) (state_numbers V (others ++ ended)))
+          (subst (λ xs. IsPermutation xs (state_numbers V (lives_after ++ ended_after)))
+          (map-append (λ l. V.number l.state) (others ++ ended) (d.live ++ d.over)) (IsPermutation-map (λ l. V.number l.state) _ _ both)))));
+      live = All-permutation (λ l. goes_on V c budget l ≡ true) _ _ d.lives_are
+          (All-append (λ l. goes_on V c budget l ≡ true) others d.live (kept_live d.keeps) d.all_live);
+      over = subst (All (λ l. goes_on V c budget l ≡ false)) (sym d.ended_are)
+          (All-append (λ l. goes_on V c budget l ≡ false) ended d.over (kept_over d.keeps) d.all_over);
+    }
 
 -- an execution that stayed out has come back
 pub stayed : {M S W C : Type 0} {V : View M S W C} (lawful : IsLawful V) {a b : M} (e : Concrete S) → Keeps V a b [] → V.out_numbers b ≡ V.out_numbers a
@@ -229,6 +231,15 @@ stayed {V = V} lawful {a} {b} e k n o = record {
     numbers = subst (IsPermutation (V.out_numbers a)) (sym n) (IsPermutation-refl (V.out_numbers a));
     keeps = keeps_more V lawful a b b [] [] (V.number e.state ∷ []) (λ j h. absurd (nowhere j h)) (λ j h. absurd (nowhere j h)) k (keeps_none V lawful b []);
   };
+}
+
+pub stays_back : {M S W C : Type 0} {V : View M S W C} (lawful : IsLawful V) {a : M} (lives : List (Concrete S)) (at : ℕ) (e : Concrete S)
+    → slice_get lives at ≡ Some e → V.is_out a e.state → IsPutBack V a a e (swap_remove lives at e) lives
+stays_back {V = V} lawful {a} lives at e h o = record {
+  back = e;
+  is = stayed lawful e (keeps_none V lawful a []) refl o;
+  lives_are = IsPermutation-trans _ _ _ (IsPermutation-to_front (swap_remove lives at e) e) (IsPermutation-sym _ _
+      (IsPermutation-swap_remove lives at e (slice_get_within lives at e h) (sym (get_or_from_slice_get lives at e e h))));
 }
 
 pub back_before : {M S W C : Type 0} {V : View M S W C} (lawful : IsLawful V) {a b c : M} {e back : Concrete S} → Keeps V a b []
@@ -270,3 +281,23 @@ at_index xs at x l e = slice_get_read xs (length xs) at x refl l e
 pub on_err : {A E P : Type 0} (r : Result A E) → P → OnErr r P
 on_err (Ok x) p = tt
 on_err (Err e) p = p
+
+pub ok_two : {A E P Q R : Type 0} (r : Result A E) → OnOk r P → OnOk r Q → (P → Q → R) → OnOk r R
+ok_two (Ok x) p q f = f p q
+ok_two (Err e) p q f = tt
+
+pub err_three : {A E P Q R T : Type 0} (r : Result A E) → OnErr r P → OnErr r Q → OnErr r R → (P → Q → R → T) → OnErr r T
+err_three (Ok x) p q s f = tt
+err_three (Err e) p q s f = f p q s
+
+pub by_answer : {A E P Q R T : Type 0} (r : Result A E) → OnOk r P → OnErr r Q → OnErr r R → (P → T) → (Q → R → T) → T
+by_answer (Ok x) p q s f g = f p
+by_answer (Err e) p q s f g = g q s
+
+pub first_there : {X : Type 0} (xs : List X) → 0 < length xs → (x : X) × (slice_get xs 0 ≡ Some x)
+first_there [] l = absurd (omega arith)
+first_there (x ∷ xs) l = (x, refl)
+
+pub no_items : {X : Type 0} (xs : List X) → length xs ≡ 0 → xs ≡ []
+no_items [] h = refl
+no_items (x ∷ xs) h = absurd (omega arith)

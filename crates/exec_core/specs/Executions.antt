@@ -5,7 +5,7 @@
 --     goes_on m budget l           its state hasn't ended, and its step is below the budget
 --     applied_of m step p          what a child stands for once its change is applied
 --     IsExecutionBack old new l k  the execution l came back as k: it is as it was
---     IsPutBack                    it stands at the end of a list again
+--     IsPutBack                    it stands among the others again
 --     AreApplying                  of the children these are left, and those executions were made
 --     AreApplied                   the children became executions at the end of the list, from the last child to the first
 --     AreSettled m budget          these executions are the live ones and the ended ones, in any order
@@ -41,7 +41,7 @@ module _ {M S W C : Type 0} (V : View M S W C) where
   pub record IsPutBack (old new : M) (l : Concrete S) (lives_before lives : List (Concrete S)) : Type 0 where
     pub back : Concrete S
     pub is : IsExecutionBack old new l back
-    pub lives_are : lives ≡ lives_before ++ back ∷ []
+    pub lives_are : IsPermutation (lives_before ++ back ∷ []) lives
 
   -- these children are left, and those executions were made
   pub record AreApplying (old new : M) (step : ℕ) (all rest : List (Child S C)) (made : List (Concrete S)) : Type 0 where

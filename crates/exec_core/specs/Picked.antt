@@ -1,11 +1,12 @@
 -- The order of turns.
 --     offer_of l             what a picker sees of an execution
 --     AreOffered             the executions are in order of least member, and a picker sees these offers of them
---     IsReplaced             the execution at an index left the list, the last one took its place, and others were put behind
+--     IsReplaced             what a turn that came to this made of the list: another execution with the same members stands at the index, or
+--                            the one there left and the last one took its place, or nothing is said
 --     IsArranged             the live executions are in order of least member, and nothing else changed
 --     Took                   of the offers of all live executions a picker chose an index, and the execution there took its turn
 --     HasRefused             the turn of some execution was refused
-use Rattle.std.specs.Prelude.{◌≡◌, ℕ, List, ◌++◌, length, map, slice_index}
+use Rattle.std.specs.Prelude.{◌≡◌, ⊤, ℕ, List, ◌++◌, length, map, slice_index, slice_index_or, slice_set}
 use Rattle.std.specs.List.{swap_remove}
 use Rattle.std.specs.List.Sorted.{IsPermutation, IsNonDecreasingBy}
 use Rattle.picker.specs.declared.picker.Offer.{Offer}
@@ -14,6 +15,8 @@ use Rattle.traces.specs.Trace.{Trial}
 use Rattle.exec_core.specs.Engines.{IsIdle}
 use Rattle.exec_core.specs.Turned.{Turned, Refused}
 use Rattle.exec_core.specs.declared.engine.Engine.{Engine}
+use Rattle.exec_core.specs.declared.in_place.Taken.{Taken}
+use Rattle.exec_core.specs.declared.in_place.Taken.TheVariants.{GoesOn, Ended, Parted}
 use Rattle.exec_core.specs.declared.execution.Execution.{Execution as Concrete}
 
 module _ {S : Type 0} where
@@ -24,10 +27,10 @@ module _ {S : Type 0} where
     pub rising : IsNonDecreasingBy (λ l. slice_index l.members 0) lives
     pub are : offers ≡ map offer_of lives
 
-  pub record IsReplaced (at : ℕ) (before after : List (Concrete S)) : Type 0 where
-    pub taken : Concrete S
-    pub made : List (Concrete S)
-    pub are : after ≡ swap_remove before at taken ++ made
+  abbrev pub IsReplaced : Taken → ℕ → List (Concrete S) → List (Concrete S) → Type 0
+  IsReplaced GoesOn at before after = (made : Concrete S) × (made.members ≡ (slice_index_or before at made).members) × (after ≡ slice_set before at made)
+  IsReplaced Ended at before after = (taken : Concrete S) × (after ≡ swap_remove before at taken)
+  IsReplaced Parted at before after = ⊤
 
 pub record IsArranged {S C : Type 0} (before after : Engine S C) : Type 0 where
   pub moved : IsPermutation before.lives.items after.lives.items

@@ -27,6 +27,9 @@ pub struct Engine<S, C> {
     /// Room for a table by variant number, of marks and then of classes, whose entries mean nothing
     /// between turns.
     pub classes: Vec<u32>,
+    /// Room for the variants that were tried and for their changes, which mean nothing between turns.
+    pub variants: Vec<u32>,
+    pub changes: Vec<C>,
 }
 
 /// An engine without an execution. It takes no memory.
@@ -48,6 +51,8 @@ pub fn idle<S, C>(alloc: Global) -> Engine<S, C>
         readied: Vec::new(alloc),
         made: Vec::new(alloc),
         classes: Vec::new(alloc),
+        variants: Vec::new(alloc),
+        changes: Vec::new(alloc),
     }
 }
 

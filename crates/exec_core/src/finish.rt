@@ -42,7 +42,7 @@ fn move_classes<S>(ended: &mut Vec<Execution<S>>, classes: &mut Vec<Class<S>>)
 
 /// What an analysis gives, where no execution goes on. `classes` has room for the executions that
 /// have ended.
-pub fn analysis_of<S, C>(
+pub fn analysis_of<S, C: Drop>(
     engine: Engine<S, C>,
     mut classes: Vec<Class<S>>,
     steps: u64,
@@ -70,6 +70,8 @@ pub fn analysis_of<S, C>(
         readied,
         made,
         classes: _,
+        variants: _,
+        changes: _,
     } = engine;
     let executions = ended.len() as u64;
     move_classes(&mut ended, &mut classes);
@@ -112,6 +114,8 @@ pub fn release_engine<M: Machine>(machine: &mut M, engine: Engine<M::State, M::C
         readied,
         made,
         classes: _,
+        variants: _,
+        changes: _,
     } = engine;
     children.destroy_empty();
     readied.destroy_empty();

@@ -6,6 +6,7 @@ mod divide;
 mod engine;
 mod execution;
 mod finish;
+mod in_place;
 pub mod laws;
 mod meter;
 mod pick;

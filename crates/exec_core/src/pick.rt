@@ -1,6 +1,6 @@
 //! The order of turns: a picker chooses the live execution that takes the next one.
 
-ghost use Rattle.std.specs.Prelude.{◌≡◌, ℕ, ◌+◌, ◌*◌, ◌^◌, ◌<◌, ◌≤◌, ◌++◌, ◌∷◌, [], List, length, map, IfOk, OnOk, OnErr, slice_index, slice_set, vec_len};
+ghost use Rattle.std.specs.Prelude.{◌≡◌, ℕ, ◌+◌, ◌*◌, ◌^◌, ◌<◌, ◌≤◌, ◌++◌, ◌∷◌, [], List, length, map, IfOk, OnOk, OnErr, slice_index, vec_len};
 ghost use Rattle.std.specs.List.{remove, swap_remove};
 ghost use Rattle.std.specs.List.Sorted.{IsPermutation, IsNonDecreasingBy};
 ghost use Rattle.traces.specs.Counts.{AreAtMost};
@@ -12,9 +12,11 @@ ghost use Rattle.exec_core.specs.Plans.{KnowsTable};
 ghost use Rattle.code_form.specs.Trial.{trial_of};
 ghost use Rattle.exec_core.specs.Turned.{IsHeld, AreHeld};
 ghost use Rattle.exec_core.specs.declared.execution.Execution.{Execution};
+ghost use Rattle.exec_core.specs.declared.in_place.Taken.TheVariants.{GoesOn};
 
 use crate::engine::Engine;
 use crate::execution::{Execution, put};
+use crate::in_place::Taken;
 use crate::meter::Meter;
 use crate::turn::turn;
 use am_base::{MAX_BUDGET, OutOfMemory};
@@ -76,45 +78,30 @@ fn move_behind<S>(lives: &mut Vec<Execution<S>>, at: usize)
     put(lives, last);
 }
 
-/// Exchanges the execution at an index with the last one.
-fn exchange_with_last<S>(lives: &mut Vec<Execution<S>>, at: usize)
-    requires { at < vec_len lives.old }
-    ensures moved { IsPermutation lives.old.items lives.new.items }
-    ensures order { (before : List (Execution S)) (taken made : Execution S) → at < length before
-        → lives.old.items ≡ swap_remove before at taken ++ made ∷ [] → lives.new.items ≡ slice_set before at made }
-{
-    let last = lives.len() - 1;
-    lives.swap(at, last);
-}
-
-/// Puts the live executions back in order of least member after a turn of the one at an index, and
-/// changes what a picker sees of them where the turn changed it: `offers` is what it saw before.
-/// Where the execution has ended, or is one with the same least member, no other is looked at.
+/// Puts the live executions back in order of least member after a turn of the one at an index that
+/// came to this, and changes what a picker sees of them where the turn changed it: `offers` is what
+/// it saw before. Where the execution goes on or has ended, no other is looked at.
 pub fn rearrange<S, C>(
     engine: &mut Engine<S, C>,
     offers: &mut Vec<Offer>,
     at: usize,
+    taken: Taken,
 ) -> Result<(), OutOfMemory>
-    requires { at < vec_len offers.old }
+    requires at { at < vec_len offers.old }
+    requires there { taken ≡ GoesOn → at < vec_len engine.old.lives }
     ensures arranged { IsArranged engine.old engine.new }
     ensures offered { OnOk result ((before : List (Execution S)) → AreOffered before offers.old.items
-        → IsReplaced at before engine.old.lives.items → AreOffered engine.new.lives.items offers.new.items) }
+        → IsReplaced taken at before engine.old.lives.items → AreOffered engine.new.lives.items offers.new.items) }
 {
-    let last = offers.len() - 1;
-    if engine.lives.len() == last {
-        move_behind(&mut engine.lives, at);
-        let _gone = offers.remove(at);
-        return Ok(());
-    }
-    if engine.lives.len() == offers.len() {
-        let now = offer(&engine.lives[last]);
-        if now.least == offers[at].least {
-            exchange_with_last(&mut engine.lives, at);
-            offers[at] = now;
-            return Ok(());
+    match taken {
+        Taken::GoesOn => offers[at] = offer(&engine.lives[at]),
+        Taken::Ended => {
+            move_behind(&mut engine.lives, at);
+            let _gone = offers.remove(at);
         }
+        Taken::Parted => arrange(engine, offers)?,
     }
-    arrange(engine, offers)
+    Ok(())
 }
 
 /// Asks the picker.
@@ -127,7 +114,8 @@ fn ask(picker: &mut Box<dyn Picker>, offers: &[Offer]) -> usize
 }
 
 /// Asks the picker once, with what it sees of all live executions in order of least member, and
-/// gives the execution that it chose its turn. Returns the index that it chose.
+/// gives the execution that it chose its turn. Returns the index that it chose, and what the turn
+/// came to.
 pub fn take_turn<M: Machine>(
     alloc: Global,
     machine: &mut M,
@@ -137,7 +125,7 @@ pub fn take_turn<M: Machine>(
     offers: &[Offer],
     engine: &mut Engine<M::State, M::Change>,
     meter: &mut Meter,
-) -> Result<usize, OutOfMemory>
+) -> Result<(usize, Taken), OutOfMemory>
     requires held { AreHeld M.view machine.old budget engine.old.lives.items engine.old.ended.items }
     requires some { 0 < vec_len engine.old.lives }
     requires offered { AreOffered engine.old.lives.items offers.now }
@@ -150,8 +138,8 @@ pub fn take_turn<M: Machine>(
     requires alone { engine.old.alone ≤ 7 * 2 ^ 60 }
     ensures took { OnOk result ((start : M.Meaning) → Took M.view (trial_of (M.view.meanings machine.old) table.now start budget)
         (picks picker.old) machine.old machine.new engine.old engine.new meter.old meter.new) }
-    ensures at { IfOk result (λ at. at < length offers.now) }
-    ensures replaced { IfOk result (λ at. IsReplaced at engine.old.lives.items engine.new.lives.items) }
+    ensures at { IfOk result (λ took. took.0 < length offers.now) }
+    ensures replaced { IfOk result (λ took. IsReplaced took.1 took.0 engine.old.lives.items engine.new.lives.items) }
     ensures refused { OnErr result ((start : M.Meaning) → HasRefused M.view (trial_of (M.view.meanings machine.old) table.now start budget)
         machine.old machine.new engine.old engine.new meter.old meter.new) }
     ensures held { (others : List ℕ) → IsHeld M.view machine.old budget others engine.old.lives.items engine.old.ended.items
@@ -161,7 +149,7 @@ pub fn take_turn<M: Machine>(
 {
     let at = ask(picker, offers);
     match turn(alloc, machine, table, budget, at, engine, meter) {
-        Ok(()) => Ok(at),
+        Ok(taken) => Ok((at, taken)),
         Err(error) => Err(error),
     }
 }

@@ -1,7 +1,7 @@
 //! The plan of a turn: the different variants of the members, the changes that they make, and for
 //! each different change its members.
 
-ghost use Rattle.std.specs.Prelude.{◌≡◌, ◌↔◌, ℕ, ◌*◌, ◌^◌, ◌<◌, ◌≤◌, [], length, IfOk, OnOk, IsTrue, EachIndex, map, nat_eq, slice_index, ◌+◌, List};
+ghost use Rattle.std.specs.Prelude.{◌≡◌, ◌↔◌, ℕ, ◌*◌, ◌^◌, ◌<◌, ◌≤◌, [], length, IfOk, OnOk, IsTrue, EachIndex, map, nat_eq, slice_index, ◌+◌, List, Some, slice_get};
 ghost use Rattle.std.specs.Prelude.{◌==◌, ◌++◌, ◌∷◌, reverse, vec_len, vec_capacity, nat_lt, if◌then◌else◌};
 ghost use Rattle.std.specs.List.{All, Contains, IsDistinct, filter};
 ghost use Rattle.code_form.specs.Variant.{variant_of, IsRising};
@@ -28,41 +28,28 @@ use exec_machine::Machine;
 use member_sets::{Members, is_marked, mark, widen};
 use std::alloc::Global;
 
-/// The different variants that the members of an execution have at its place, and the changes that
-/// they make there.
-#[derive(Drop)]
-struct Tried<C> {
-    pub variants: Vec<u32>,
-    pub changes: Vec<C>,
-}
-
-/// The plans of a turn, and how many variants were tried for them.
-#[derive(Drop)]
-pub struct Planned<C> {
-    pub plans: Vec<Plan<C>>,
-    pub tried: u64,
-}
-
-/// Tries the different variants of an execution's members. `marks` is room for a table by variant
-/// number.
+/// Puts the different variants of an execution's members into one list and the changes that they
+/// make into another, whatever stood there. `marks` is room for a table by variant number.
 fn try_members<M: Machine>(
     alloc: Global,
     machine: &mut M,
     table: &Variants,
     e: &Execution<M::State>,
     marks: &mut Vec<u32>,
-) -> Result<Tried<M::Change>, OutOfMemory>
+    variants: &mut Vec<u32>,
+    changes: &mut Vec<M::Change>,
+) -> Result<(), OutOfMemory>
     requires out { M.view.is_out machine.old e.now.state }
     requires live { IsLive M.view machine.old e.now.state }
     requires known { KnowsTable (M.view.meanings machine.old) table.now }
     requires room { AreAtMost (7 * 2 ^ 60) (M.view.counts machine.old) }
-    ensures variants { IfOk result (λ tried. (start : M.Meaning) (budget : ℕ) → tried.variants.items
+    ensures variants { OnOk result ((start : M.Meaning) (budget : ℕ) → variants.new.items
         ≡ variants_of (trial_of (M.view.meanings machine.old) table.now start budget) (execution_of M.view machine.old e.now)) }
-    ensures distinct { IfOk result (λ tried. IsDistinct nat_eq tried.variants.items) }
-    ensures few { IfOk result (λ tried. length tried.variants.items ≤ MAX_MUTANTS) }
+    ensures distinct { OnOk result (IsDistinct nat_eq variants.new.items) }
+    ensures few { OnOk result (length variants.new.items ≤ MAX_MUTANTS) }
     ensures members { OnOk result (IsMemberList e.now.members) }
-    ensures changes { IfOk result (λ tried. tried.changes.items
-        ≡ map (λ v. (M.view.meanings machine.old).next v (M.view.stands machine.old e.now.state)) tried.variants.items) }
+    ensures changes { OnOk result (changes.new.items
+        ≡ map (λ v. (M.view.meanings machine.old).next v (M.view.stands machine.old e.now.state)) variants.new.items) }
     ensures counts { OnOk result ((start : M.Meaning) (budget : ℕ) → RoseBy (M.view.counts machine.old) (M.view.counts machine.new)
         (tries_of_turn (trial_of (M.view.meanings machine.old) table.now start budget) (execution_of M.view machine.old e.now))) }
     ensures counts_within { (start : M.Meaning) (budget : ℕ) → RoseWithin (M.view.counts machine.old) (M.view.counts machine.new)
@@ -72,10 +59,10 @@ fn try_members<M: Machine>(
 {
     let place = machine.place(&e.state);
     let _len = e.members.len();
-    let variants = variants_in(alloc, &e.members, table, place, marks)?;
-    let mut changes = Vec::new(alloc);
-    machine.tries(alloc, &e.state, &variants, &mut changes)?;
-    Ok(Tried { variants, changes })
+    variants_in(&e.members, table, place, marks, variants)?;
+    changes.clear();
+    machine.tries(alloc, &e.state, variants, changes)?;
+    Ok(())
 }
 
 /// Whether all numbers are 0.
@@ -85,49 +72,30 @@ fn are_zero(numbers: &[u32]) -> bool
     numbers.iter().all(|n| *n == 0)
 }
 
-/// Returns the parts of the members by the classes of their variants, in order of least member.
-/// `class_of` has the class of each variant that a member has at the place, and `numbers` has the
-/// classes. Where there is one class the members are shared, and none is looked at.
-fn split(
-    alloc: Global,
-    members: &Members,
-    table: &Variants,
-    place: Place,
-    class_of: &[u32],
-    numbers: &[u32],
-) -> Result<Items<Members>, OutOfMemory>
-    requires within { All (λ m. variant_of table.now m place.0 < length class_of.now) members.now }
-    requires classes { All (λ m. Contains numbers.now (class_at (variant_of table.now) place.0 class_of.now m)) members.now }
-    ensures { IfOk result (λ parts. parts ≡ parts_by (class_at (variant_of table.now) place.0 class_of.now) members.now) }
-{
-    if !are_zero(numbers) {
-        return members.split_by(alloc, table, place, class_of);
-    }
-    let _len = members.len();
-    let mut parts = Vec::with_capacity(alloc, 1)?;
-    parts.push(members.share()?)?;
-    Ok(Items::from_vec(parts))
-}
-
 /// Tries the different variants of an execution's members, and gives a plan for each different
-/// change. `classes` is room for a table by variant number, whose entries mean nothing before and
-/// afterwards.
+/// change. Where they make one change it gives none: that is the first of `changes` then. `classes`
+/// is room for a table by variant number, whose entries mean nothing before and afterwards.
 pub fn make_plans<M: Machine>(
     alloc: Global,
     machine: &mut M,
     table: &Variants,
     e: &Execution<M::State>,
     classes: &mut Vec<u32>,
-) -> Result<Planned<M::Change>, OutOfMemory>
+    variants: &mut Vec<u32>,
+    changes: &mut Vec<M::Change>,
+) -> Result<Vec<Plan<M::Change>>, OutOfMemory>
     requires out { M.view.is_out machine.old e.now.state }
     requires live { IsLive M.view machine.old e.now.state }
     requires known { KnowsTable (M.view.meanings machine.old) table.now }
     requires room { AreAtMost (7 * 2 ^ 60) (M.view.counts machine.old) }
-    ensures plans { IfOk result (λ planned. (start : M.Meaning) (budget : ℕ) → plans_of planned.plans.items
+    ensures one { IfOk result (λ plans. plans.items ≡ [] → (c : M.Change) → slice_get changes.new.items 0 ≡ Some c → (start : M.Meaning) (budget : ℕ)
+        → (e.now.members, c) ∷ [] ≡ plans_at (trial_of (M.view.meanings machine.old) table.now start budget) (execution_of M.view machine.old e.now)) }
+    ensures some { IfOk result (λ plans. plans.items ≡ [] → 0 < vec_len changes.new) }
+    ensures several { IfOk result (λ plans. 0 < vec_len plans → (start : M.Meaning) (budget : ℕ) → plans_of plans.items
         ≡ plans_at (trial_of (M.view.meanings machine.old) table.now start budget) (execution_of M.view machine.old e.now)) }
-    ensures tried { IfOk result (λ planned. (start : M.Meaning) (budget : ℕ) → planned.tried
-        ≡ length (variants_of (trial_of (M.view.meanings machine.old) table.now start budget) (execution_of M.view machine.old e.now))) }
-    ensures few { IfOk result (λ planned. planned.tried ≤ MAX_MUTANTS) }
+    ensures variants { OnOk result ((start : M.Meaning) (budget : ℕ) → variants.new.items
+        ≡ variants_of (trial_of (M.view.meanings machine.old) table.now start budget) (execution_of M.view machine.old e.now)) }
+    ensures few { OnOk result (length variants.new.items ≤ MAX_MUTANTS) }
     ensures members { OnOk result (IsMemberList e.now.members) }
     ensures counts { OnOk result ((start : M.Meaning) (budget : ℕ) → RoseBy (M.view.counts machine.old) (M.view.counts machine.new)
         (tries_of_turn (trial_of (M.view.meanings machine.old) table.now start budget) (execution_of M.view machine.old e.now))) }
@@ -137,16 +105,18 @@ pub fn make_plans<M: Machine>(
     ensures keeps { Keeps M.view machine.old machine.new [] }
 {
     let place = machine.place(&e.state);
-    let tried = try_members(alloc, machine, table, e, classes)?;
-    let Tried { variants, changes } = tried;
-    let numbers = machine.group(alloc, &changes)?;
-    write_classes(classes, &variants, numbers.as_slice())?;
-    let parts = split(alloc, &e.members, table, place, classes, numbers.as_slice())?;
+    try_members(alloc, machine, table, e, classes, variants, changes)?;
+    if changes.len() == 1 {
+        return Ok(Vec::new(alloc));
+    }
+    let numbers = machine.group(alloc, changes)?;
+    if are_zero(numbers.as_slice()) {
+        return Ok(Vec::new(alloc));
+    }
+    write_classes(classes, variants, numbers.as_slice())?;
+    let parts = e.members.split_by(alloc, table, place, classes)?;
     let plans = plans_for(alloc, parts, changes, numbers.as_slice())?;
-    Ok(Planned {
-        plans,
-        tried: variants.len() as u64,
-    })
+    Ok(plans)
 }
 
 /// Appends a number that isn't among these yet. Each of them has its index in the table of marks.
@@ -219,33 +189,33 @@ fn visit(
     }
 }
 
-/// Returns the different variants of the members at the place, in order of the least member that
-/// has each. `marks` is room for a table by variant number, whose entries mean nothing before and
-/// afterwards.
+/// Makes the list the different variants of the members at the place, in order of the least member
+/// that has each, whatever stood there. `marks` is room for a table by variant number, whose entries
+/// mean nothing before and afterwards.
 ///
 /// It looks up each mutant that has a replacement at the place. All other members have variant 0,
 /// and aren't looked at: O(w) for w such mutants, and O(w log n) where the n members are few.
 pub fn variants_in(
-    alloc: Global,
     members: &Members,
     table: &Variants,
     place: Place,
     marks: &mut Vec<u32>,
-) -> Result<Vec<u32>, OutOfMemory>
+    variants: &mut Vec<u32>,
+) -> Result<(), OutOfMemory>
     requires { IsMemberList members.now }
-    ensures variants { IfOk result (λ variants. variants.items
+    ensures variants { OnOk result (variants.new.items
         ≡ map (λ m. variant_of table.now m place.0) (filter (is_class_leader (λ m. variant_of table.now m place.0) members.now) members.now)) }
-    ensures distinct { IfOk result (λ variants. IsDistinct nat_eq variants.items) }
+    ensures distinct { OnOk result (IsDistinct nat_eq variants.new.items) }
 {
-    let mut variants = Vec::new(alloc);
+    variants.clear();
     let touched = table.mutants_at(place);
     let mut at = 0;
     for m in touched {
         let variant = table.variant(*m, place);
-        at = visit(marks, &mut variants, members, at, *m, variant)?;
+        at = visit(marks, variants, members, at, *m, variant)?;
     }
-    add_originals(marks, &mut variants, at, members.len() as usize)?;
-    Ok(variants)
+    add_originals(marks, variants, at, members.len() as usize)?;
+    Ok(())
 }
 
 /// The greatest of the numbers, and 0 where there is none.
@@ -321,17 +291,17 @@ pub fn fork_plans<M: Machine>(
 }
 
 /// Gives each part the change of its members, in the order of the parts: the k-th part has the k-th
-/// of the changes whose number is their own index.
+/// of the changes whose number is their own index. No change is left in the list.
 pub fn plans_for<C: Drop>(
     alloc: Global,
     mut parts: Items<Members>,
-    mut changes: Vec<C>,
+    changes: &mut Vec<C>,
     numbers: &[u32],
 ) -> Result<Vec<Plan<C>>, OutOfMemory>
-    requires numbers { length numbers.now ≡ length changes.items }
-    requires as_many { length parts ≡ length (own_firsts numbers.now 0 changes.items) }
+    requires numbers { length numbers.now ≡ length changes.old.items }
+    requires as_many { length parts ≡ length (own_firsts numbers.now 0 changes.old.items) }
     ensures members { IfOk result (λ plans. map (λ p. p.members) plans.items ≡ parts) }
-    ensures changes { IfOk result (λ plans. map (λ p. p.change) plans.items ≡ own_firsts numbers.now 0 changes.items) }
+    ensures changes { IfOk result (λ plans. map (λ p. p.change) plans.items ≡ own_firsts numbers.now 0 changes.old.items) }
 {
     let mut plans = Vec::with_capacity(alloc, parts.len())?;
     while let Some(change) = changes.pop() {

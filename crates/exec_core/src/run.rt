@@ -125,10 +125,10 @@ pub fn run_all<M: Machine>(
     let mut offers = Vec::new(alloc);
     arrange(engine, &mut offers)?;
     'turns: while !engine.lives.is_empty() {
-        let at = take_turn(
+        let (at, taken) = take_turn(
             alloc, machine, table, budget, picker, &offers, engine, meter,
         )?;
-        rearrange(engine, &mut offers, at)?;
+        rearrange(engine, &mut offers, at, taken)?;
     }
     Ok(())
 }

@@ -85,6 +85,11 @@ fn late_gains(alloc: Global, len: u32, late: u32) -> Result<Vec<u64>, OutOfMemor
     Ok(gains)
 }
 
+/// Keeps the members and the length of a class, as far as there is memory.
+fn keep(kept: &mut Vec<(Members, u64)>, members: Members, length: u64) {
+    let _ = kept.push((members, length));
+}
+
 /// Releases the states of the classes, and keeps their members and lengths, from the last class to the first.
 fn release_all<M: Machine>(
     machine: &mut M,
@@ -102,7 +107,7 @@ fn release_all<M: Machine>(
             length,
         } = class;
         machine.release(state);
-        let _ = kept.push((members, length));
+        keep(kept, members, length);
     }
     rest.destroy_empty();
 }

@@ -111,9 +111,11 @@ fn first_best<F: Fn(&Offer, &Offer) -> bool>(live: &[Offer], beats: F) -> usize
         → IsStrictWeakOrder order → IsFirstBest order live.now (length live.now) result }
 {
     let mut best = 0;
+    let mut top = live[0];
     for at in 1..live.len() {
-        if beats(&live[at], &live[best]) {
+        if beats(&live[at], &top) {
             best = at;
+            top = live[at];
         }
     }
     best

@@ -1,20 +1,22 @@
-use Rattle.std.proofs.Common.{◌≡◌, ◌-◌, length, get_or, set, refl, arith, ap, ◌∙◌}
-use Rattle.exec_core.proofs.OrderLemmas.{offered_without, offered_with}
+use Rattle.std.proofs.Common.{rules, ◌≡◌, set, refl, arith, subst}
+use Rattle.exec_core.specs.Picked.{IsReplaced}
+use Rattle.exec_core.specs.declared.in_place.Taken.{Taken}
+use Rattle.exec_core.specs.declared.in_place.Taken.TheVariants.{GoesOn, Ended}
+use Rattle.exec_core.proofs.OrderLemmas.{offered_without, offered_there}
 use Rattle.exec_core.proofs.pick.rearrange.Goals as goal
 
-pub returns-then-len-last-clause-offered : goal.returns-then-len-last-clause-offered
-returns-then-len-last-clause-offered g c before seen left =
+pub returns-in-GoesOn-clause-offered : goal.returns-in-GoesOn-clause-offered
+returns-in-GoesOn-clause-offered g c before seen left =
     let E = c.args.engine.now in let offers = c.args.offers.now in
-    offered_without before E.lives.items c.move_behind.new.lives.items offers.items c.remove-gone.new.self.items c.args.at seen left
-    (omega (arith, c.requires, offers.ok.0)) (omega (arith, c.if-len-last.true, c.len.ensures, c.len-last.ensures, c.requires, offers.ok.0, E.lives.ok.0))
-    c.move_behind.ensures.order c.remove-gone.ensures.items
+    let is : c.args.taken ≡ GoesOn = search rules in
+    offered_there before E.lives.items E.lives.items offers.items (set offers.items c.args.at c.offer.result) c.args.at seen
+    (omega (arith, c.requires.at, offers.ok.0)) (subst (λ (t : Taken). IsReplaced {S = g.row.S.Denot} t c.args.at before E.lives.items) is left)
+    c.index.result.now c.offer.result c.index.ensures c.offer.ensures refl
 
-pub returns-then-now-index-clause-offered : goal.returns-then-now-index-clause-offered
-returns-then-now-index-clause-offered g c before seen left =
+pub returns-in-Ended-clause-offered : goal.returns-in-Ended-clause-offered
+returns-in-Ended-clause-offered g c before seen left =
     let E = c.args.engine.now in let offers = c.args.offers.now in
-    let n : c.len-last.result - 1 ≡ length offers.items - 1 = omega (arith, c.len-last.ensures, offers.ok.0) in
-    offered_with before E.lives.items c.exchange_with_last.new.lives.items offers.items (set offers.items c.args.at c.offer-now.result) c.args.at seen left
-    (omega (arith, c.requires, offers.ok.0)) (omega (arith, c.if-len.true, c.len-2.ensures, c.len-3.ensures, offers.ok.0, E.lives.ok.0))
-    c.exchange_with_last.ensures.order
-    c.index.result.now c.offer-now.result c.index-then-len.result.now (c.index.ensures ∙ ap (λ i. get_or E.lives.items i c.index.result.now) n)
-    c.offer-now.ensures c.index-then-len.ensures c.if-now-index.true refl
+    let is : c.args.taken ≡ Ended = search rules in
+    offered_without before E.lives.items c.move_behind.new.lives.items offers.items c.remove-gone.new.self.items c.args.at seen
+    (omega (arith, c.requires.at, offers.ok.0)) (subst (λ (t : Taken). IsReplaced {S = g.row.S.Denot} t c.args.at before E.lives.items) is left)
+    c.move_behind.ensures.order c.remove-gone.ensures.items

@@ -24,8 +24,8 @@ tries-requires-clause-known g c =
     let A = g.M.Machine.view.meanings c.args.machine.now in let p = A.place (g.M.Machine.view.stands c.args.machine.now c.args.e.now.state) in
     let ns = c.args.e.now.members in let v : ℕ → ℕ = λ m. variant_of c.args.table.now m p in
     subst (All (λ x. A.knows p x ≡ true))
-    (sym (c.deref.ensures.value ∙ at_place c.args.table.now c.place-place.result.0 p c.args.e.now.members ns c.in_ok-variants.variants.items
-    refl c.place-place.ensures c.in_ok-variants.ensures.variants))
+    (sym (c.deref.ensures.value ∙ at_place c.args.table.now c.place-place.result.0 p c.args.e.now.members ns c.variants_in.new.variants.items
+    refl c.place-place.ensures c.in_ok-variants_in.ensures.variants))
     (known_firsts (A.knows p) v (filter (is_class_leader v ns) ns) (λ m. c.requires.known m p))
 
 pub tries-requires-clause-room : goal.tries-requires-clause-room
@@ -36,7 +36,7 @@ tries-requires-clause-room g c =
       arith,
       few,
       ap length c.deref.ensures.value,
-      ap length c.in_ok-variants.ensures.variants,
+      ap length c.in_ok-variants_in.ensures.variants,
       c.len-len.ensures.value,
       c.len-len.ensures.few,
       c.requires.room.tried,
@@ -50,7 +50,7 @@ tries-requires-clause-room_to_ask g c port =
       arith,
       few,
       ap length c.deref.ensures.value,
-      ap length c.in_ok-variants.ensures.variants,
+      ap length c.in_ok-variants_in.ensures.variants,
       c.len-len.ensures.value,
       c.len-len.ensures.few,
       c.requires.room.asks port,
@@ -61,7 +61,7 @@ returns-in_err-tries-clause-counts_within g c start budget =
     let V = g.M.Machine.view in let A = V.meanings c.args.machine.now in let w = V.stands c.args.machine.now c.args.e.now.state in let p = A.place w in
     let a = V.counts c.args.machine.now in let b = V.counts c.tries.new.self in let t = c.tries.ensures in
     let h = c.deref.ensures.value ∙ at_place c.args.table.now c.place-place.result.0 p c.args.e.now.members c.args.e.now.members
-    c.in_ok-variants.variants.items refl c.place-place.ensures c.in_ok-variants.ensures.variants in
+    c.variants_in.new.variants.items refl c.place-place.ensures c.in_ok-variants_in.ensures.variants in
     subst (λ vs. RoseWithin a b (counts_of_tries A w vs)) h t.counts_within
 
 pub returns-clause-counts_within : goal.returns-clause-counts_within
@@ -69,7 +69,7 @@ returns-clause-counts_within g c start budget =
     let V = g.M.Machine.view in let A = V.meanings c.args.machine.now in let w = V.stands c.args.machine.now c.args.e.now.state in let p = A.place w in
     let a = V.counts c.args.machine.now in let b = V.counts c.tries.new.self in let t = c.tries.ensures in
     let h = c.deref.ensures.value ∙ at_place c.args.table.now c.place-place.result.0 p c.args.e.now.members c.args.e.now.members
-    c.in_ok-variants.variants.items refl c.place-place.ensures c.in_ok-variants.ensures.variants in
+    c.variants_in.new.variants.items refl c.place-place.ensures c.in_ok-variants_in.ensures.variants in
     subst (λ vs. RoseWithin a b (counts_of_tries A w vs)) h t.counts_within
 
 pub returns-clause-counts : goal.returns-clause-counts
@@ -77,14 +77,14 @@ returns-clause-counts g c start budget =
     let V = g.M.Machine.view in let A = V.meanings c.args.machine.now in let w = V.stands c.args.machine.now c.args.e.now.state in let p = A.place w in
     let a = V.counts c.args.machine.now in let b = V.counts c.tries.new.self in let t = c.in_ok-tries.ensures in
     let h = c.deref.ensures.value ∙ at_place c.args.table.now c.place-place.result.0 p c.args.e.now.members c.args.e.now.members
-    c.in_ok-variants.variants.items refl c.place-place.ensures c.in_ok-variants.ensures.variants in
+    c.variants_in.new.variants.items refl c.place-place.ensures c.in_ok-variants_in.ensures.variants in
     subst (λ vs. RoseBy a b (counts_of_tries A w vs)) h t.counts
 
 pub returns-clause-variants : goal.returns-clause-variants
 returns-clause-variants g c start budget =
     let V = g.M.Machine.view in let p = (V.meanings c.args.machine.now).place (V.stands c.args.machine.now c.args.e.now.state) in
-    at_place c.args.table.now c.place-place.result.0 p c.args.e.now.members c.args.e.now.members c.in_ok-variants.variants.items
-    refl c.place-place.ensures c.in_ok-variants.ensures.variants
+    at_place c.args.table.now c.place-place.result.0 p c.args.e.now.members c.args.e.now.members c.variants_in.new.variants.items
+    refl c.place-place.ensures c.in_ok-variants_in.ensures.variants
 
 pub returns-clause-few : goal.returns-clause-few
 returns-clause-few g c =
@@ -93,7 +93,7 @@ returns-clause-few g c =
     omega (
       arith,
       few,
-      ap length c.in_ok-variants.ensures.variants,
+      ap length c.in_ok-variants_in.ensures.variants,
       c.len-len.ensures.value,
       c.len-len.ensures.few,
     )

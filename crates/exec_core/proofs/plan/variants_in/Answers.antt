@@ -11,9 +11,9 @@ use Rattle.exec_core.proofs.plan.variants_in.Goals as goal
 
 pub loop-m-init : goal.loop-m-init
 loop-m-init c = record {
-  variants = c.new-variants.ensures.items;
-  distinct = rw c.new-variants.ensures.items distinct_none;
-  marked = rw c.new-variants.ensures.items (none_marked c.args.marks.now.items);
+  variants = c.clear.ensures.items;
+  distinct = rw c.clear.ensures.items distinct_none;
+  marked = rw c.clear.ensures.items (none_marked c.args.marks.now.items);
   at = at_first (λ m. variant_of c.args.table.now m c.args.place.0) c.args.members.now c.mutants_at-touched.result.now c.requires
       c.mutants_at-touched.ensures.rising (λ m. (c.mutants_at-touched.ensures.exact m).1);
 }

@@ -6,6 +6,7 @@ use Rattle.code_form.specs.Trial.{trial_of}
 use Rattle.exec_core.specs.Turned.{Turned, Refused}
 use Rattle.exec_core.proofs.GoingLemmas.{going_more, closer, owed, refused_stops, none_opened, room_left, meter_left, tries_left, alone_left, are_held}
 use Rattle.exec_core.proofs.TurnLemmas.{on_err}
+use Rattle.exec_core.proofs.OrderLemmas.{there_still}
 use Rattle.exec_core.proofs.PickLemmas.{going_arranged, same_cost}
 use Rattle.exec_core.proofs.EndingLemmas.{going_stops}
 use Rattle.exec_core.proofs.run.run_all.Goals as goal
@@ -104,8 +105,14 @@ returns-in_err-rearrange-clause-stopped g c =
 pub returns-in_err-rearrange-clause-idle : goal.returns-in_err-rearrange-clause-idle
 returns-in_err-rearrange-clause-idle g c = c.rearrange.ensures.arranged.idle c.in_ok-at.ensures.idle
 
-pub rearrange-requires : goal.rearrange-requires
-rearrange-requires g c = omega (arith, c.in_ok-at.ensures.at, ap length c.deref.ensures.value, c.turns.offers.ok.0)
+pub rearrange-requires-clause-at : goal.rearrange-requires-clause-at
+rearrange-requires-clause-at g c = omega (arith, c.in_ok-at.ensures.at, ap length c.deref.ensures.value, c.turns.offers.ok.0)
+
+pub rearrange-requires-clause-there : goal.rearrange-requires-clause-there
+rearrange-requires-clause-there g c is =
+    let n = there_still c.turns.engine.lives.items c.take_turn.new.engine.lives.items c.turns.offers.items c.in_ok-at.at c.in_ok-at.taken is
+    c.in_ok-at.ensures.replaced c.turns.invariant.offered (omega (arith, c.in_ok-at.ensures.at, ap length c.deref.ensures.value)) in
+    omega (arith, n, c.take_turn.new.engine.lives.ok.0)
 
 pub returns-in_err-at-clause-stopped : goal.returns-in_err-at-clause-stopped
 returns-in_err-at-clause-stopped g c =

@@ -1,248 +1,175 @@
-use Rattle.std.proofs.Common.{◌≡◌, ℕ, ◌+◌, ◌<◌, [], ◌∷◌, ◌++◌, length, map, arith, refl, sym, ap, ◌∙◌, subst}
-use Rattle.std.specs.List.{All, filter}
-use Rattle.std.specs.List.Sorted.{IsPermutation}
-use Rattle.std.proofs.lemmas.Simd.{map-map}
-use Rattle.std.proofs.lemmas.List.Sorted.{IsPermutation-append_left}
-use Rattle.traces.specs.Meanings.{Meanings, total_toll}
-use Rattle.traces.specs.Configuration.{parts, same_change, is_leader, variants_of}
-use Rattle.traces.specs.Trace.{change_of}
-use Rattle.traces.specs.View.{IsKnown}
-use Rattle.exec_core.specs.Counted.{weight_of_turn}
-use Rattle.exec_core.specs.Engines.{split_seen}
-use Rattle.exec_core.specs.Executions.{execution_of, state_numbers}
-use Rattle.exec_core.proofs.Holding.{nowhere, keeps_none, keeps_more}
-use Rattle.exec_core.specs.Plans.{plans_of, plan_weights}
-use Rattle.code_form.specs.Trial.{trial_of}
-use Rattle.exec_core.specs.Divided.{child_of}
-use Rattle.exec_core.specs.Turned.{executions_of, IsHeld, Advanced}
-use Rattle.exec_core.proofs.TurnLemmas.{on_err, taken_out, at_index, e_out, e_live, e_below, keeps_all, stayed, back_before, advanced_before, was_moved}
-use Rattle.exec_core.proofs.TurnLemmas.{same_executions, held_back, turned_executions, held_on}
-use Rattle.exec_core.proofs.PlannedLemmas.{as_many_parts, weight_is}
-use Rattle.exec_core.proofs.CountLemmas.{turn_by, turn_within, none_applied}
+use Rattle.std.proofs.Common.{rules, ◌≡◌, ◌==◌, true, false, ◌<◌, [], ◌∷◌, vec_len, arith, refl, subst}
+use Rattle.std.proofs.lemmas.Bool.{eqb-true}
+use Rattle.std.proofs.lemmas.Bool.Decides.{nat_tests}
+use Rattle.exec_core.specs.Plans.{plans_of}
+use Rattle.exec_core.specs.Turned.{CanAdvance}
+use Rattle.exec_core.proofs.Holding.{nowhere}
+use Rattle.exec_core.proofs.OrderLemmas.{same_there}
+use Rattle.exec_core.proofs.TurnLemmas.{on_err, at_index, e_out, e_live, taken_out, no_items, stays_back, ok_two, err_three, by_answer, first_there}
+use Rattle.exec_core.proofs.TurnedLemmas.{not_counted, out, can_advance, has_turned, has_refused, still_held, held_again, keeps_others}
 use Rattle.exec_core.proofs.turn.turn.Goals as goal
 
-pub plan_turn-requires-clause-out : goal.plan_turn-requires-clause-out
-plan_turn-requires-clause-out g c =
-    let p = taken_out c.swap_remove-e.ensures.value c.swap_remove-e.ensures.items (omega (arith, c.requires.at, c.args.engine.now.lives.ok.0)) in
+pub make_plans-requires-clause-out : goal.make_plans-requires-clause-out
+make_plans-requires-clause-out g c =
+    let E = c.args.engine.now in
+    let p = taken_out c.index.ensures refl (omega (arith, c.requires.at, E.lives.ok.0)) in
     e_out g.met.M.Machine.lawful c.requires.held.held p
 
-pub plan_turn-requires-clause-live : goal.plan_turn-requires-clause-live
-plan_turn-requires-clause-live g c =
-    let p = taken_out c.swap_remove-e.ensures.value c.swap_remove-e.ensures.items (omega (arith, c.requires.at, c.args.engine.now.lives.ok.0)) in
+pub make_plans-requires-clause-live : goal.make_plans-requires-clause-live
+make_plans-requires-clause-live g c =
+    let E = c.args.engine.now in
+    let p = taken_out c.index.ensures refl (omega (arith, c.requires.at, E.lives.ok.0)) in
     e_live g.met.M.Machine.lawful c.requires.held.held p
 
--- the execution's state is out still, and stands for the same
-pub advance-requires-clause-out : goal.advance-requires-clause-out
-advance-requires-clause-out g c =
-    let p = taken_out c.swap_remove-e.ensures.value c.swap_remove-e.ensures.items (omega (arith, c.requires.at, c.args.engine.now.lives.ok.0)) in
-    c.in-Ok.ensures.keeps.out _ (e_out g.met.M.Machine.lawful c.requires.held.held p) (nowhere _)
+-- a refusal before anything was planned
+pub returns-in_err-plans-clause-refused : goal.returns-in_err-plans-clause-refused
+returns-in_err-plans-clause-refused g c = on_err c.from_residual.result (λ start.
+    let V = g.M.Machine.view in let m = c.args.machine.now in let E = c.args.engine.now in let e = c.index.result.now in
+    let l = g.met.M.Machine.lawful in let t = c.make_plans.ensures in
+    let there = at_index E.lives.items c.args.at e (omega (arith, c.requires.at, E.lives.ok.0)) c.index.ensures in
+    let o = t.keeps.out e.state (out l c.args.table.now c.args.at E c.requires.held there t.keeps t.out_numbers) (nowhere _) in
+    has_refused l c.args.table.now c.args.at E c.requires.held there t.keeps t.out_numbers start refl (t.counts_within start c.args.budget)
+    (stays_back l E.lives.items c.args.at e there o) refl not_counted)
 
-pub advance-requires-clause-live : goal.advance-requires-clause-live
-advance-requires-clause-live g c =
-    let V = g.M.Machine.view in let e = c.swap_remove-e.result in let k = c.in-Ok.ensures.keeps in
-    let p = taken_out c.swap_remove-e.ensures.value c.swap_remove-e.ensures.items (omega (arith, c.requires.at, c.args.engine.now.lives.ok.0)) in
-    ap (λ w. (V.meanings c.plan_turn.new.machine).ended w) (k.stands e.state (e_out g.met.M.Machine.lawful c.requires.held.held p) (nowhere _))
-    ∙ ap (λ (A : Meanings g.M.Machine.Meaning g.row.M-Change.Denot). A.ended (V.stands c.args.machine.now e.state)) k.meanings
-    ∙ e_live g.met.M.Machine.lawful c.requires.held.held p
+pub returns-in_err-plans-clause-held : goal.returns-in_err-plans-clause-held
+returns-in_err-plans-clause-held g c numbers h =
+    let E = c.args.engine.now in let e = c.index.result.now in let l = g.met.M.Machine.lawful in let t = c.make_plans.ensures in
+    let there = at_index E.lives.items c.args.at e (omega (arith, c.requires.at, E.lives.ok.0)) c.index.ensures in
+    let o = t.keeps.out e.state (out l c.args.table.now c.args.at E c.requires.held there t.keeps t.out_numbers) (nowhere _) in
+    held_again l c.args.table.now c.args.at E c.requires.held there t.keeps t.out_numbers (stays_back l E.lives.items c.args.at e there o) refl h
 
-pub advance-requires-clause-step : goal.advance-requires-clause-step
-advance-requires-clause-step g c =
-    let p = taken_out c.swap_remove-e.ensures.value c.swap_remove-e.ensures.items (omega (arith, c.requires.at, c.args.engine.now.lives.ok.0)) in
-    omega (arith, e_below g.met.M.Machine.lawful c.requires.held.held p, c.requires.budget)
+-- the members make one change
+pub go_on-requires-clause-ready : goal.go_on-requires-clause-ready
+go_on-requires-clause-ready g c e' x h hx =
+    let V = g.M.Machine.view in let m = c.args.machine.now in let E = c.args.engine.now in let e = c.index.result.now in
+    let l = g.met.M.Machine.lawful in let t = c.in_ok-plans.ensures in
+    let there = at_index E.lives.items c.args.at e (omega (arith, c.requires.at, E.lives.ok.0)) c.index.ensures in
+    let zero : (vec_len c.in_ok-plans.plans == 0) ≡ true = search rules in
+    let none = no_items c.in_ok-plans.plans.items (let z = eqb-true (vec_len c.in_ok-plans.plans) 0 zero in omega (arith, z, c.in_ok-plans.plans.ok.0)) in
+    subst (λ y. CanAdvance V c.make_plans.new.machine y ((y.members, x) ∷ [])) (same_there E.lives.items c.args.at e e' there h)
+    (can_advance l c.args.table.now c.args.at E c.requires.held there t.keeps t.out_numbers (V.stands m e.state)
+    (t.one none x hx (V.stands m e.state) c.args.budget) t.members c.requires.known c.requires.budget)
 
-pub advance-requires-clause-known : goal.advance-requires-clause-known
-advance-requires-clause-known g c =
-    let V = g.M.Machine.view in let e = c.swap_remove-e.result in let k = c.in-Ok.ensures.keeps in
-    let p = taken_out c.swap_remove-e.ensures.value c.swap_remove-e.ensures.items (omega (arith, c.requires.at, c.args.engine.now.lives.ok.0)) in
-    subst (λ w. All (λ p. IsKnown (V.meanings c.plan_turn.new.machine) w p.change) c.in-Ok.plans.items)
-    (sym (k.stands e.state (e_out g.met.M.Machine.lawful c.requires.held.held p) (nowhere _)))
-    (subst (λ A. All (λ p. IsKnown A (V.stands c.args.machine.now e.state) p.change) c.in-Ok.plans.items) (sym k.meanings) c.in-Ok.ensures.known)
+pub go_on-requires-clause-room_to_ready : goal.go_on-requires-clause-room_to_ready
+go_on-requires-clause-room_to_ready g c =
+    omega (arith, (c.in_ok-plans.ensures.counts (g.M.Machine.view.stands c.args.machine.now c.index.result.now.state) 0).readied, c.requires.room.readied)
 
-pub advance-requires-clause-light : goal.advance-requires-clause-light
-advance-requires-clause-light g c =
-    let e = ap (λ (A : Meanings g.M.Machine.Meaning g.row.M-Change.Denot). plan_weights A.weight (plans_of c.in-Ok.plans.items)) c.in-Ok.ensures.keeps.meanings
-    in
-    omega (arith, e, c.in-Ok.ensures.light)
+pub go_on-requires-clause-room_to_apply : goal.go_on-requires-clause-room_to_apply
+go_on-requires-clause-room_to_apply g c =
+    omega (arith, (c.in_ok-plans.ensures.counts (g.M.Machine.view.stands c.args.machine.now c.index.result.now.state) 0).applied, c.requires.room.applied)
 
-pub advance-requires-clause-room_to_ready : goal.advance-requires-clause-room_to_ready
-advance-requires-clause-room_to_ready g c =
-    omega (arith, (c.in-Ok.ensures.counts (g.M.Machine.view.stands c.args.machine.now c.swap_remove-e.result.state) 0).readied, c.requires.room.readied)
+pub go_on-requires-clause-room_to_weigh : goal.go_on-requires-clause-room_to_weigh
+go_on-requires-clause-room_to_weigh g c =
+    omega (arith, (c.in_ok-plans.ensures.counts (g.M.Machine.view.stands c.args.machine.now c.index.result.now.state) 0).weighed, c.requires.room.weighed)
 
-pub advance-requires-clause-room_to_apply : goal.advance-requires-clause-room_to_apply
-advance-requires-clause-room_to_apply g c =
-    omega (arith, (c.in-Ok.ensures.counts (g.M.Machine.view.stands c.args.machine.now c.swap_remove-e.result.state) 0).applied, c.requires.room.applied)
+pub returns-then-is_empty-clause-turned : goal.returns-then-is_empty-clause-turned
+returns-then-is_empty-clause-turned g c =
+    let E = c.args.engine.now in let e = c.index.result.now in let l = g.met.M.Machine.lawful in let t = c.in_ok-plans.ensures in
+    let there = at_index E.lives.items c.args.at e (omega (arith, c.requires.at, E.lives.ok.0)) c.index.ensures in
+    let zero : (vec_len c.in_ok-plans.plans == 0) ≡ true = search rules in
+    let none = no_items c.in_ok-plans.plans.items (let z = eqb-true (vec_len c.in_ok-plans.plans) 0 zero in omega (arith, z, c.in_ok-plans.plans.ok.0)) in
+    let cs = c.make_plans.new.changes in let f = first_there cs.items (omega (arith, t.some none, cs.ok.0)) in let x = f.0 in
+    ok_two c.go_on.result c.go_on.ensures.advanced c.go_on.ensures.counted (λ d q start.
+    has_turned l c.args.table.now c.args.at E c.requires.held there t.keeps t.out_numbers start (t.one none x f.1 start c.args.budget)
+    t.members (t.variants start c.args.budget) refl refl refl (t.counts start c.args.budget) (d e x there f.1) (q e x there f.1))
 
-pub advance-requires-clause-room_to_weigh : goal.advance-requires-clause-room_to_weigh
-advance-requires-clause-room_to_weigh g c =
-    omega (arith, (c.in-Ok.ensures.counts (g.M.Machine.view.stands c.args.machine.now c.swap_remove-e.result.state) 0).weighed, c.requires.room.weighed)
+pub returns-then-is_empty-clause-refused : goal.returns-then-is_empty-clause-refused
+returns-then-is_empty-clause-refused g c =
+    let E = c.args.engine.now in let e = c.index.result.now in let l = g.met.M.Machine.lawful in let t = c.in_ok-plans.ensures in
+    let there = at_index E.lives.items c.args.at e (omega (arith, c.requires.at, E.lives.ok.0)) c.index.ensures in
+    let zero : (vec_len c.in_ok-plans.plans == 0) ≡ true = search rules in
+    let none = no_items c.in_ok-plans.plans.items (let z = eqb-true (vec_len c.in_ok-plans.plans) 0 zero in omega (arith, z, c.in_ok-plans.plans.ok.0)) in
+    let cs = c.make_plans.new.changes in let f = first_there cs.items (omega (arith, t.some none, cs.ok.0)) in let x = f.0 in
+    err_three c.go_on.result c.go_on.ensures.err c.go_on.ensures.err_ended c.go_on.ensures.err_counted (λ b n q start.
+    has_refused l c.args.table.now c.args.at E c.requires.held there t.keeps t.out_numbers start (t.one none x f.1 start c.args.budget)
+    (c.make_plans.ensures.counts_within start c.args.budget) (b e there) n (q e x there f.1))
 
-pub put-requires : goal.put-requires
-put-requires g c =
-    let k = c.in-Err.ensures.kept in
-    let n = ap length k.lives in
-    omega (
-      arith,
-      n,
-      k.capacity,
-      c.plan_turn.new.engine.lives.ok.0,
-      c.swap_remove-e.new.self.ok.0,
-      c.swap_remove-e.ensures.len,
-      c.swap_remove-e.ensures.capacity,
-      c.args.engine.now.lives.ok.1,
-    )
+pub returns-then-is_empty-clause-held : goal.returns-then-is_empty-clause-held
+returns-then-is_empty-clause-held g c numbers h =
+    let E = c.args.engine.now in let e = c.index.result.now in let l = g.met.M.Machine.lawful in let t = c.in_ok-plans.ensures in
+    let there = at_index E.lives.items c.args.at e (omega (arith, c.requires.at, E.lives.ok.0)) c.index.ensures in
+    let zero : (vec_len c.in_ok-plans.plans == 0) ≡ true = search rules in
+    let none = no_items c.in_ok-plans.plans.items (let z = eqb-true (vec_len c.in_ok-plans.plans) 0 zero in omega (arith, z, c.in_ok-plans.plans.ok.0)) in
+    let cs = c.make_plans.new.changes in let f = first_there cs.items (omega (arith, t.some none, cs.ok.0)) in
+    by_answer c.go_on.result c.go_on.ensures.advanced c.go_on.ensures.err c.go_on.ensures.err_ended
+    (λ d. still_held l c.args.table.now c.args.at E c.requires.held there t.keeps t.out_numbers (d e f.0 there f.1) h)
+    (λ b n. held_again l c.args.table.now c.args.at E c.requires.held there t.keeps t.out_numbers (b e there) n h)
 
-pub returns-in_ok-advance-in-Ok-clause-turned : goal.returns-in_ok-advance-in-Ok-clause-turned
-returns-in_ok-advance-in-Ok-clause-turned g c start =
-    let V = g.M.Machine.view in let m = c.args.machine.now in let E = c.args.engine.now in let F = c.advance.new.engine in let e = c.swap_remove-e.result in
-    let others = c.swap_remove-e.new.self.items in
-    let l : c.args.at < length E.lives.items = omega (arith, c.requires.at, E.lives.ok.0) in
-    let p = taken_out c.swap_remove-e.ensures.value c.swap_remove-e.ensures.items l in
-    let T = trial_of (V.meanings m) c.args.table.now start c.args.budget in let x = execution_of V m e in
-    let plans = c.in-Ok.plans.items in let k = c.in-Ok.ensures.keeps in let a = c.in_ok-advance-in-Ok.ensures in let t = c.in-Ok.ensures in
-    let planned = t.plans start c.args.budget in
-    let d : Advanced V m c.advance.new.machine c.args.budget e (plans_of plans) others F.lives.items E.ended.items F.ended.items =
-    advanced_before g.met.M.Machine.lawful k t.out_numbers
-    (subst (λ xs. Advanced V c.plan_turn.new.machine c.advance.new.machine c.args.budget e (plans_of plans) others F.lives.items xs F.ended.items) t.kept.ended
-    (subst (λ xs. Advanced V c.plan_turn.new.machine c.advance.new.machine c.args.budget e
-    (plans_of plans) xs F.lives.items c.plan_turn.new.engine.ended.items F.ended.items) t.kept.lives a.advanced))
-    (e_out g.met.M.Machine.lawful c.requires.held.held p) in
-    let many : length plans ≡ length (parts T x) = as_many_parts T (g.met.M.Machine.lawful.same m) x t.members plans planned in
-    let weight : plan_weights (V.meanings c.plan_turn.new.machine).weight (plans_of plans) ≡ weight_of_turn T x =
-    ap (λ (A : Meanings g.M.Machine.Meaning g.row.M-Change.Denot). plan_weights A.weight (plans_of plans)) k.meanings
-    ∙ weight_is T (g.met.M.Machine.lawful.same m) x t.members plans planned in
-    record {
-      turned = e;
-      there = at_index E.lives.items _ e l c.swap_remove-e.ensures.value;
-      rest = executions_of V m others E.ended.items;
-      was = was_moved g.met.M.Machine.lawful c.requires.held.held p;
-      is = subst (λ xs. IsPermutation (executions_of V m others E.ended.items ++ xs) (executions_of V c.advance.new.machine F.lives.items F.ended.items))
-          (ap (map (child_of V m e)) planned ∙ map-map (child_of V m e) (λ k. (filter (same_change T x k) x.members, change_of T k x.state))
-          (filter (is_leader T x) x.members)) (turned_executions g.met.M.Machine.lawful c.requires.held.held p d);
-      counts = turn_by (V.counts m) (V.counts c.plan_turn.new.machine) (V.counts c.advance.new.machine) (length (variants_of T x)) (length (parts T x))
-          (weight_of_turn T x) (λ port. total_toll T.meanings port x.state (variants_of T x))
-          (t.counts start c.args.budget) a.tried a.asks (a.applied ∙ ap (λ n. (V.counts c.plan_turn.new.machine).applied + n) many)
-          (a.weighed ∙ ap (λ n. (V.counts c.plan_turn.new.machine).weighed + n) weight) (a.readied
-          ∙ ap (λ n. (V.counts c.plan_turn.new.machine).readied + n) weight);
-      meter = a.meter ∙ ap (λ n. c.args.meter.now + n) many;
-      tries = a.tries ∙ t.tries start c.args.budget;
-      alone = a.alone ∙ t.alone;
-      splits = ap (map split_seen) a.splits ∙ t.splits start c.args.budget;
-    }
+pub returns-then-is_empty-clause-keeps : goal.returns-then-is_empty-clause-keeps
+returns-then-is_empty-clause-keeps g c =
+    let E = c.args.engine.now in let e = c.index.result.now in let l = g.met.M.Machine.lawful in let t = c.in_ok-plans.ensures in
+    let there = at_index E.lives.items c.args.at e (omega (arith, c.requires.at, E.lives.ok.0)) c.index.ensures in
+    let zero : (vec_len c.in_ok-plans.plans == 0) ≡ true = search rules in
+    let none = no_items c.in_ok-plans.plans.items (let z = eqb-true (vec_len c.in_ok-plans.plans) 0 zero in omega (arith, z, c.in_ok-plans.plans.ok.0)) in
+    let cs = c.make_plans.new.changes in let f = first_there cs.items (omega (arith, t.some none, cs.ok.0)) in
+    by_answer c.go_on.result c.go_on.ensures.advanced c.go_on.ensures.err c.go_on.ensures.err_ended
+    (λ d. keeps_others l c.args.table.now c.args.at E c.requires.held there t.keeps t.out_numbers (d e f.0 there f.1).keeps)
+    (λ b n. keeps_others l c.args.table.now c.args.at E c.requires.held there t.keeps t.out_numbers (b e there).is.state.keeps)
 
-pub returns-in_ok-advance-in-Ok-clause-held : goal.returns-in_ok-advance-in-Ok-clause-held
-returns-in_ok-advance-in-Ok-clause-held g c numbers h =
-    let V = g.M.Machine.view in let m = c.args.machine.now in let E = c.args.engine.now in let F = c.advance.new.engine in let e = c.swap_remove-e.result in
-    let others = c.swap_remove-e.new.self.items in
-    let p = taken_out c.swap_remove-e.ensures.value c.swap_remove-e.ensures.items (omega (arith, c.requires.at, c.args.engine.now.lives.ok.0)) in
-    let plans = c.in-Ok.plans.items in let t = c.in-Ok.ensures in
-    held_on g.met.M.Machine.lawful h p (advanced_before g.met.M.Machine.lawful t.keeps t.out_numbers
-    (subst (λ xs. Advanced V c.plan_turn.new.machine c.advance.new.machine c.args.budget e (plans_of plans) others F.lives.items xs F.ended.items) t.kept.ended
-    (subst (λ xs. Advanced V c.plan_turn.new.machine c.advance.new.machine c.args.budget e
-    (plans_of plans) xs F.lives.items c.plan_turn.new.engine.ended.items F.ended.items) t.kept.lives c.in_ok-advance-in-Ok.ensures.advanced))
-    (e_out g.met.M.Machine.lawful c.requires.held.held p))
+-- they make several
+pub part-requires-clause-ready : goal.part-requires-clause-ready
+part-requires-clause-ready g c e' h =
+    let V = g.M.Machine.view in let m = c.args.machine.now in let E = c.args.engine.now in let e = c.index.result.now in
+    let l = g.met.M.Machine.lawful in let t = c.in_ok-plans.ensures in
+    let there = at_index E.lives.items c.args.at e (omega (arith, c.requires.at, E.lives.ok.0)) c.index.ensures in
+    let none : (vec_len c.in_ok-plans.plans == 0) ≡ false = search rules in
+    let some : 0 < vec_len c.in_ok-plans.plans = grind (arith, nat_tests) in
+    subst (λ y. CanAdvance V c.make_plans.new.machine y (plans_of c.in_ok-plans.plans.items)) (same_there E.lives.items c.args.at e e' there h)
+    (can_advance l c.args.table.now c.args.at E c.requires.held there t.keeps t.out_numbers (V.stands m e.state)
+    (t.several some (V.stands m e.state) c.args.budget) t.members c.requires.known c.requires.budget)
 
-pub returns-in_ok-advance-in-Ok-clause-keeps : goal.returns-in_ok-advance-in-Ok-clause-keeps
-returns-in_ok-advance-in-Ok-clause-keeps g c =
-    let V = g.M.Machine.view in let n = V.number c.swap_remove-e.result.state ∷ [] in
-    let p = taken_out c.swap_remove-e.ensures.value c.swap_remove-e.ensures.items (omega (arith, c.requires.at, c.args.engine.now.lives.ok.0)) in
-    keeps_all (IsPermutation-append_left c.args.engine.now.ended.items _ _ p) (keeps_more _ g.met.M.Machine.lawful _ _ _ [] n n
-    (λ j h. absurd (nowhere j h)) (λ j h. h) c.in-Ok.ensures.keeps c.in_ok-advance-in-Ok.ensures.advanced.keeps)
+pub part-requires-clause-room_to_ready : goal.part-requires-clause-room_to_ready
+part-requires-clause-room_to_ready g c =
+    omega (arith, (c.in_ok-plans.ensures.counts (g.M.Machine.view.stands c.args.machine.now c.index.result.now.state) 0).readied, c.requires.room.readied)
 
-pub returns-in_err-advance-in-Ok-clause-refused : goal.returns-in_err-advance-in-Ok-clause-refused
-returns-in_err-advance-in-Ok-clause-refused g c =
-    on_err c.from_residual.result (λ start.
-    let V = g.M.Machine.view in let m = c.args.machine.now in let E = c.args.engine.now in let F = c.advance.new.engine in let e = c.swap_remove-e.result in
-    let others = c.swap_remove-e.new.self.items in
-    let l : c.args.at < length E.lives.items = omega (arith, c.requires.at, E.lives.ok.0) in
-    let p = taken_out c.swap_remove-e.ensures.value c.swap_remove-e.ensures.items l in
-    let T = trial_of (V.meanings m) c.args.table.now start c.args.budget in let x = execution_of V m e in
-    let plans = c.in-Ok.plans.items in let a = c.in_err-advance-in-Ok.ensures in let t = c.in-Ok.ensures in
-    let back = back_before g.met.M.Machine.lawful t.keeps t.out_numbers a.err.is (e_out g.met.M.Machine.lawful c.requires.held.held p) in
-    let weight : plan_weights (V.meanings c.plan_turn.new.machine).weight (plans_of plans) ≡ weight_of_turn T x =
-    ap (λ (A : Meanings g.M.Machine.Meaning g.row.M-Change.Denot). plan_weights A.weight (plans_of plans)) t.keeps.meanings
-    ∙ weight_is T (g.met.M.Machine.lawful.same m) x t.members plans (t.plans start c.args.budget) in
-    let r = t.counts start c.args.budget in
-    record {
-      refused = e;
-      there = at_index E.lives.items _ e l c.swap_remove-e.ensures.value;
-      same = subst (IsPermutation (executions_of V m E.lives.items E.ended.items))
-          (ap (executions_of V c.advance.new.machine (others ++ a.err.back ∷ [])) (sym t.kept.ended ∙ sym a.err_ended)
-          ∙ ap (λ xs. executions_of V c.advance.new.machine xs F.ended.items) (ap (λ xs. xs ++ a.err.back ∷ []) (sym t.kept.lives) ∙ sym a.err.lives_are))
-          (same_executions g.met.M.Machine.lawful c.requires.held.held p back.state.keeps back);
-      counts = turn_within (V.counts m) (V.counts c.plan_turn.new.machine) (V.counts c.advance.new.machine) (length (variants_of T x)) (length (parts T x))
-          (weight_of_turn T x) (λ port. total_toll T.meanings port x.state (variants_of T x))
-          (c.in-Ok.ensures.counts_within start c.args.budget) a.tried a.asks a.err_applied a.err_weighed a.readied_at_least
-          (omega (arith, a.readied_at_most, weight));
-      applied = omega (arith, a.err_applied, r.applied);
-      weighed = omega (arith, a.err_weighed, r.weighed);
-      meter = a.err_meter;
-    })
+pub part-requires-clause-room_to_apply : goal.part-requires-clause-room_to_apply
+part-requires-clause-room_to_apply g c =
+    omega (arith, (c.in_ok-plans.ensures.counts (g.M.Machine.view.stands c.args.machine.now c.index.result.now.state) 0).applied, c.requires.room.applied)
 
-pub returns-in_err-advance-in-Ok-clause-held : goal.returns-in_err-advance-in-Ok-clause-held
-returns-in_err-advance-in-Ok-clause-held g c numbers h =
-    let V = g.M.Machine.view in let m = c.args.machine.now in let E = c.args.engine.now in let F = c.advance.new.engine in let e = c.swap_remove-e.result in
-    let others = c.swap_remove-e.new.self.items in
-    let p = taken_out c.swap_remove-e.ensures.value c.swap_remove-e.ensures.items (omega (arith, c.requires.at, c.args.engine.now.lives.ok.0)) in
-    let a = c.in_err-advance-in-Ok.ensures in let t = c.in-Ok.ensures in
-    let back = back_before g.met.M.Machine.lawful t.keeps t.out_numbers a.err.is (e_out g.met.M.Machine.lawful c.requires.held.held p) in
-    subst (λ xs. IsHeld V c.advance.new.machine c.args.budget numbers xs F.ended.items) (ap (λ xs. xs ++ a.err.back ∷ []) (sym t.kept.lives)
-    ∙ sym a.err.lives_are) (subst (IsHeld V c.advance.new.machine c.args.budget numbers (others ++ a.err.back ∷ [])) (sym t.kept.ended ∙ sym a.err_ended)
-    (held_back g.met.M.Machine.lawful h p back.state.keeps back))
+pub part-requires-clause-room_to_weigh : goal.part-requires-clause-room_to_weigh
+part-requires-clause-room_to_weigh g c =
+    omega (arith, (c.in_ok-plans.ensures.counts (g.M.Machine.view.stands c.args.machine.now c.index.result.now.state) 0).weighed, c.requires.room.weighed)
 
-pub returns-in_err-advance-in-Ok-clause-keeps : goal.returns-in_err-advance-in-Ok-clause-keeps
-returns-in_err-advance-in-Ok-clause-keeps g c =
-    let V = g.M.Machine.view in let n = V.number c.swap_remove-e.result.state ∷ [] in
-    let p = taken_out c.swap_remove-e.ensures.value c.swap_remove-e.ensures.items (omega (arith, c.requires.at, c.args.engine.now.lives.ok.0)) in
-    keeps_all (IsPermutation-append_left c.args.engine.now.ended.items _ _ p) (keeps_more _ g.met.M.Machine.lawful _ _ _ [] n n
-    (λ j h. absurd (nowhere j h)) (λ j h. h) c.in-Ok.ensures.keeps c.in_err-advance-in-Ok.ensures.err.is.state.keeps)
+pub returns-in_err-part-clause-refused : goal.returns-in_err-part-clause-refused
+returns-in_err-part-clause-refused g c = on_err c.from_residual-in_err-part.result (λ start.
+    let E = c.args.engine.now in let e = c.index.result.now in let l = g.met.M.Machine.lawful in let t = c.in_ok-plans.ensures in
+    let there = at_index E.lives.items c.args.at e (omega (arith, c.requires.at, E.lives.ok.0)) c.index.ensures in
+    let none : (vec_len c.in_ok-plans.plans == 0) ≡ false = search rules in
+    let some : 0 < vec_len c.in_ok-plans.plans = grind (arith, nat_tests) in
+    let a = c.in_err-part.ensures in
+    has_refused l c.args.table.now c.args.at E c.requires.held there t.keeps t.out_numbers start (t.several some start c.args.budget)
+    (c.make_plans.ensures.counts_within start c.args.budget) (a.err e there) a.err_ended a.err_counted)
 
-pub returns-in-Err-clause-refused : goal.returns-in-Err-clause-refused
-returns-in-Err-clause-refused g c start =
-    let V = g.M.Machine.view in let m = c.args.machine.now in let E = c.args.engine.now in let F = c.plan_turn.new.engine in let e = c.swap_remove-e.result in
-    let others = c.swap_remove-e.new.self.items in
-    let l : c.args.at < length E.lives.items = omega (arith, c.requires.at, E.lives.ok.0) in
-    let p = taken_out c.swap_remove-e.ensures.value c.swap_remove-e.ensures.items l in
-    let T = trial_of (V.meanings m) c.args.table.now start c.args.budget in let x = execution_of V m e in
-    let t = c.in-Err.ensures in let b = V.counts c.plan_turn.new.machine in
-    let back = stayed g.met.M.Machine.lawful e t.keeps t.out_numbers (e_out g.met.M.Machine.lawful c.requires.held.held p) in
-    let tolls : ℕ → ℕ = λ port. total_toll T.meanings port x.state (variants_of T x) in
-    let none = none_applied (V.counts m) b b (length (variants_of T x)) 0 0 tolls (t.counts_within start c.args.budget) in
-    record {
-      refused = e;
-      there = at_index E.lives.items _ e l c.swap_remove-e.ensures.value;
-      same = subst (IsPermutation (executions_of V m E.lives.items E.ended.items))
-          (ap (executions_of V c.plan_turn.new.machine (others ++ e ∷ [])) (sym t.kept.ended)
-          ∙ ap (λ xs. executions_of V c.plan_turn.new.machine xs F.ended.items) (ap (λ xs. xs ++ e ∷ []) (sym t.kept.lives) ∙ sym c.put.ensures.items))
-          (same_executions g.met.M.Machine.lawful c.requires.held.held p back.state.keeps back);
-      counts = turn_within (V.counts m) b b (length (variants_of T x)) (length (parts T x)) (weight_of_turn T x) tolls
-          (t.counts_within start c.args.budget) refl (λ k. refl) refl refl (omega arith) (omega arith);
-      applied = none.0;
-      weighed = none.1;
-      meter = refl;
-    }
+pub returns-in_err-part-clause-held : goal.returns-in_err-part-clause-held
+returns-in_err-part-clause-held g c numbers h =
+    let E = c.args.engine.now in let e = c.index.result.now in let l = g.met.M.Machine.lawful in let t = c.in_ok-plans.ensures in
+    let there = at_index E.lives.items c.args.at e (omega (arith, c.requires.at, E.lives.ok.0)) c.index.ensures in
+    held_again l c.args.table.now c.args.at E c.requires.held there t.keeps t.out_numbers (c.in_err-part.ensures.err e there) c.in_err-part.ensures.err_ended h
 
-pub returns-in-Err-clause-held : goal.returns-in-Err-clause-held
-returns-in-Err-clause-held g c numbers h =
-    let V = g.M.Machine.view in let m = c.args.machine.now in let E = c.args.engine.now in let F = c.plan_turn.new.engine in let e = c.swap_remove-e.result in
-    let others = c.swap_remove-e.new.self.items in
-    let p = taken_out c.swap_remove-e.ensures.value c.swap_remove-e.ensures.items (omega (arith, c.requires.at, c.args.engine.now.lives.ok.0)) in
-    let t = c.in-Err.ensures in
-    let back = stayed g.met.M.Machine.lawful e t.keeps t.out_numbers (e_out g.met.M.Machine.lawful c.requires.held.held p) in
-    subst (λ xs. IsHeld V c.plan_turn.new.machine c.args.budget numbers xs F.ended.items) (ap (λ xs. xs ++ e ∷ []) (sym t.kept.lives) ∙ sym c.put.ensures.items)
-    (subst (IsHeld V c.plan_turn.new.machine c.args.budget numbers (others ++ e ∷ [])) (sym t.kept.ended)
-    (held_back g.met.M.Machine.lawful h p back.state.keeps back))
+pub returns-in_err-part-clause-keeps : goal.returns-in_err-part-clause-keeps
+returns-in_err-part-clause-keeps g c =
+    let E = c.args.engine.now in let e = c.index.result.now in let l = g.met.M.Machine.lawful in let t = c.in_ok-plans.ensures in
+    let there = at_index E.lives.items c.args.at e (omega (arith, c.requires.at, E.lives.ok.0)) c.index.ensures in
+    keeps_others l c.args.table.now c.args.at E c.requires.held there t.keeps t.out_numbers (c.in_err-part.ensures.err e there).is.state.keeps
 
-pub returns-in-Err-clause-keeps : goal.returns-in-Err-clause-keeps
-returns-in-Err-clause-keeps g c =
-    let V = g.M.Machine.view in let m = c.args.machine.now in let E = c.args.engine.now in
-    keeps_more _ g.met.M.Machine.lawful _ _ _ [] [] (state_numbers V (E.lives.items ++ E.ended.items))
-    (λ j h. absurd (nowhere j h)) (λ j h. absurd (nowhere j h)) c.in-Err.ensures.keeps (keeps_none _ g.met.M.Machine.lawful _ [])
+pub returns-clause-turned : goal.returns-clause-turned
+returns-clause-turned g c start =
+    let E = c.args.engine.now in let e = c.index.result.now in let l = g.met.M.Machine.lawful in let t = c.in_ok-plans.ensures in
+    let there = at_index E.lives.items c.args.at e (omega (arith, c.requires.at, E.lives.ok.0)) c.index.ensures in
+    let none : (vec_len c.in_ok-plans.plans == 0) ≡ false = search rules in
+    let some : 0 < vec_len c.in_ok-plans.plans = grind (arith, nat_tests) in
+    let a = c.in_ok-part.ensures in
+    has_turned l c.args.table.now c.args.at E c.requires.held there t.keeps t.out_numbers start (t.several some start c.args.budget)
+    t.members (t.variants start c.args.budget) refl refl refl (t.counts start c.args.budget) (a.advanced e there) (a.counted e there)
 
-pub returns-in_ok-advance-in-Ok-clause-replaced : goal.returns-in_ok-advance-in-Ok-clause-replaced
-returns-in_ok-advance-in-Ok-clause-replaced g c =
-    let d = c.in_ok-advance-in-Ok.ensures.advanced in
-    record {
-      taken = c.swap_remove-e.result;
-      made = d.live;
-      are = d.lives_are ∙ ap (λ xs. xs ++ d.live) (c.in-Ok.ensures.kept.lives ∙ c.swap_remove-e.ensures.items);
-    }
+pub returns-clause-held : goal.returns-clause-held
+returns-clause-held g c numbers h =
+    let E = c.args.engine.now in let e = c.index.result.now in let l = g.met.M.Machine.lawful in let t = c.in_ok-plans.ensures in
+    let there = at_index E.lives.items c.args.at e (omega (arith, c.requires.at, E.lives.ok.0)) c.index.ensures in
+    still_held l c.args.table.now c.args.at E c.requires.held there t.keeps t.out_numbers (c.in_ok-part.ensures.advanced e there) h
+
+pub returns-clause-keeps : goal.returns-clause-keeps
+returns-clause-keeps g c =
+    let E = c.args.engine.now in let e = c.index.result.now in let l = g.met.M.Machine.lawful in let t = c.in_ok-plans.ensures in
+    let there = at_index E.lives.items c.args.at e (omega (arith, c.requires.at, E.lives.ok.0)) c.index.ensures in
+    keeps_others l c.args.table.now c.args.at E c.requires.held there t.keeps t.out_numbers (c.in_ok-part.ensures.advanced e there).keeps

@@ -28,14 +28,6 @@ loop-class-preserved g c =
     (map f c.loop-class.rest.items) (map f c.pop.new.self.items) c.in-Some.class.state c.loop-class.invariant
     (ap (map f) c.in-Some.ensures.items ∙ map-append f c.pop.new.self.items (c.in-Some.class ∷ [])) c.release.ensures.out_numbers c.release.ensures.keeps
 
-pub loop-class-preserved-in-Some : goal.loop-class-preserved-in-Some
-loop-class-preserved-in-Some g c =
-    let V = g.M.Machine.view in
-    let f : Class g.row.M-State.Denot → g.row.M-State.Denot = λ x. x.state in
-    left_less V g.met.M.Machine.lawful c.args.machine.now c.loop-class.machine c.release.new.self (class_numbers V c.args.classes)
-    (map f c.loop-class.rest.items) (map f c.pop.new.self.items) c.in-Some.class.state c.loop-class.invariant
-    (ap (map f) c.in-Some.ensures.items ∙ map-append f c.pop.new.self.items (c.in-Some.class ∷ [])) c.release.ensures.out_numbers c.release.ensures.keeps
-
 pub release-requires : goal.release-requires
 release-requires g c =
     let V = g.M.Machine.view in
