@@ -6,6 +6,8 @@ ghost use Rattle.ir_rules.specs.Rules.{fault};
 ghost use Rattle.ir_rules.specs.Settings.{Setting};
 ghost use Rattle.ir_rules.specs.Types.{type_defs};
 ghost use Rattle.ir_scopes.specs.Kinds.{kind_in};
+ghost use Rattle.ir_pass.specs.Frames.{no_frame};
+ghost use Rattle.ir_pass.specs.Seen.{no_seen};
 ghost use Rattle.ir_checker.specs.Judged.{AreOf, has_large};
 ghost use Rattle.ir_checker.specs.Passes.{AreKindsOf, Arrived, IsJudgedBy, opened};
 
@@ -13,7 +15,7 @@ use crate::broken::{Known, Notes, TypeBreaks, notes_of};
 use crate::judge::rule_of;
 use am_base::OutOfMemory;
 use ir_names::NameTable;
-use ir_pass::{Frame, closed_frame, enter, is_end, is_head, leave, note, nothing_seen, step};
+use ir_pass::{Frame, Seen, closed_frame, enter, is_end, is_head, leave, note, nothing_seen, step};
 use ir_rules::{Fault, Local};
 use ir_scopes::KindTable;
 use ir_tree::Item;
@@ -91,17 +93,39 @@ pub fn first_fault<R: TypeRules>(
 {
     let mut frame = closed_frame(alloc);
     let mut seen = nothing_seen(alloc);
+    fault_along(alloc, known, rules, &mut frame, &mut seen, items)
+}
+
+/// Goes over the items of a module to its first fault. `frame` and `seen` know of no item yet; they
+/// are lent, so that no way out of the pass lets them go.
+fn fault_along<R: TypeRules>(
+    alloc: Global,
+    known: &Known<'_>,
+    rules: &mut R,
+    frame: &mut Frame,
+    seen: &mut Seen,
+    items: &[Item],
+) -> Result<Option<Fault>, OutOfMemory>
+    requires kinds { AreKindsOf (kind_in known.now.kinds.now.names) (type_defs items.now) }
+    requires entities { known.now.entities.now
+        ≡ firsts (spec.entities_of (kind_in known.now.kinds.now.names) items.now) }
+    requires defs { R.defs rules.old ≡ type_defs items.now }
+    requires judged { R.has_judged rules.old [] }
+    requires frame { frame.old ≡ no_frame }
+    requires seen { seen.old ≡ no_seen }
+    ensures { IfOk result (λ found. found ≡ fault items.now known.now.ports.now) }
+{
     let mut inside = false;
     'each: for (i, item) in items.iter().enumerate() {
-        let notes = arrive(alloc, known.kinds, &mut frame, &items[i..], item)?;
+        let notes = arrive(alloc, known.kinds, frame, &items[i..], item)?;
         let typed = rules.breaks(alloc, known, &frame.function.table, item)?;
-        let rule = rule_of(alloc, known, &frame, &seen, &notes, &typed, item)?;
+        let rule = rule_of(alloc, known, frame, seen, &notes, &typed, item)?;
         if let Some(rule) = rule {
             return Ok(Some(Fault { item: i, rule }));
         }
         inside = opens(inside, item);
-        leave(alloc, &mut frame, inside, item);
-        note(alloc, &mut seen, item)?;
+        leave(alloc, frame, inside, item);
+        note(alloc, seen, item)?;
     }
     Ok(None)
 }

@@ -43,6 +43,24 @@ elements-more defs wanted es k e w f h r l at before here both =
     ∙ ap (λ b. w && b) (sym (elements-append defs wanted (take k es) (get_or es k e) k (sym (length-take-le k es (omega arith))))
     ∙ sym (ap (elements_fit defs wanted) (take_more es k e l)))
 
+-- where the first elements don't all fit, not all elements do
+short : (defs : TypeDefs) (wanted : ℕ → Option Ty) (es : List (TyText × Init)) (k : ℕ) → false ≡ elements_fit defs wanted (take k es)
+    → false ≡ elements_fit defs wanted es
+short defs wanted [] zero h = h
+short defs wanted [] (suc k) h = h
+short defs wanted (e ∷ es) zero h = absurd cc
+short defs wanted (e ∷ es) (suc k) h = by (element_fits defs (wanted zero) e) (short defs (λ k. wanted (suc k)) es k) h
+  where
+    by : (b : Bool) → (false ≡ elements_fit defs (λ k. wanted (suc k)) (take k es) → false ≡ elements_fit defs (λ k. wanted (suc k)) es)
+        → false ≡ (b && elements_fit defs (λ k. wanted (suc k)) (take k es)) → false ≡ (b && elements_fit defs (λ k. wanted (suc k)) es)
+    by true later h = later h
+    by false later h = refl
+
+pub elements-short : (defs : TypeDefs) (wanted : ℕ → Option Ty) (es : List (TyText × Init)) (k : ℕ) (w : Bool)
+    → false ≡ (w && elements_fit defs wanted (take k es)) → false ≡ (w && elements_fit defs wanted es)
+elements-short defs wanted es k true h = short defs wanted es k h
+elements-short defs wanted es k false h = refl
+
 -- ---- the forms of an initialiser
 
 pub fits-One : (defs : TypeDefs) (i : Init) (t : Ty) (a : Opd) → i ≡ initial.One a → constant_fits (scalar_of t) a ≡ init_fits defs i t

@@ -50,7 +50,9 @@ fn init_fits(
     }
 }
 
-/// Whether each element fits its part of the type with a number, and something else holds too.
+/// Whether each element fits its part of the type with a number, and something else holds too. It
+/// ends at the first element that doesn't fit, so at most one walk along two types that differ is
+/// made.
 #[cycle(fits)]
 fn elements_fit(
     alloc: Global,
@@ -67,6 +69,9 @@ fn elements_fit(
 {
     let mut fits = whole;
     'each: for (k, element) in elements.iter().enumerate() {
+        if !fits {
+            return Ok(false);
+        }
         let here = element_fits(alloc, types, element, n, k)?;
         fits = both(fits, here);
     }

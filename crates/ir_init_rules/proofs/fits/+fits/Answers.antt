@@ -8,7 +8,7 @@ use Rattle.ir_type_rules.proofs.Inits.{lists, all_lists, lists-Array, lists-Stru
 use Rattle.ir_init_rules.specs.Levels.{is_array_of, is_struct_of, part_type}
 use Rattle.ir_init_rules.specs.Same.{same_at}
 use Rattle.ir_init_rules.specs.Fits as spec
-use Rattle.ir_init_rules.proofs.Elements.{fits-One, fits-Text, fits-Array, fits-Struct, elements-more, element-found, keeps-both, keeps-within}
+use Rattle.ir_init_rules.proofs.Elements.{fits-One, fits-Text, fits-Array, fits-Struct, elements-more, elements-short, element-found, keeps-both, keeps-within}
 use Rattle.ir_init_rules.proofs.fits.+fits.Goals as goal
 
 pub elements_fit-element_fits-requires : goal.elements_fit-element_fits-requires
@@ -33,6 +33,12 @@ elements_fit-each-preserved t c =
           elements-more old.defs (part_type (out-Ty (type_at old.types c.args.n))) c.args.elements.now c.each.k e c.args.whole c.each.fits c.in_ok-here.here
           c.both-fits.result c.each-test.true c.index-elements-k.is c.each.invariant.fits here c.both-fits.ensures;
     }
+
+pub elements_fit-returns-then-not-fits-clause-fits : goal.elements_fit-returns-then-not-fits-clause-fits
+elements_fit-returns-then-not-fits-clause-fits t c =
+    let old = c.args.types.now in
+    elements-short old.defs (part_type (out-Ty (type_at old.types c.args.n))) c.args.elements.now c.each.k c.args.whole
+    (sym c.if-not-fits.true ∙ c.each.invariant.fits)
 
 pub init_fits-elements_fit-requires : goal.init_fits-elements_fit-requires
 init_fits-elements_fit-requires t c =
