@@ -1,0 +1,5 @@
+pub mod Tables
+pub mod Firsts
+pub mod Agreeing
+pub mod Leaders
+pub mod Analysed

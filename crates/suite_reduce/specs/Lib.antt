@@ -1,0 +1,6 @@
+pub mod Kills
+pub mod Choice
+pub mod Pass
+pub mod Subsumers
+pub mod Planes
+pub mod Scan
