@@ -1,8 +1,9 @@
 //! The trusted edge: a shelf over the system's files, and a sink over standard output.
 
-ghost use Rattle.std.specs.Prelude.{◌≤◌, length, None, IfOk};
+ghost use Rattle.std.specs.Prelude.{◌≡◌, ◌≤◌, length, None, IfOk};
 
 use am_base::{Shelf, ShelfFault, Sink, SinkFailed};
+use std::alloc::Global;
 use std::fs;
 use std::io::{self, ErrorKind, Read, Seek, SeekFrom, Write};
 use std::rt::Files;
@@ -24,7 +25,12 @@ impl<'a, R: Files> FileShelf<'a, R> {
 }
 
 /// Opens a file, seeks to an offset in bytes and reads once.
-fn read_once<R: Files>(rt: &R, name: &str, from: u64, into: &mut [u8]) -> io::Result<usize>
+pub(crate) fn read_once<R: Files>(
+    rt: &R,
+    name: &str,
+    from: u64,
+    into: &mut [u8],
+) -> io::Result<usize>
     ensures { IfOk result (λ count. count ≤ length into.old) }
 {
     let mut file = fs::open(rt, name)?;
@@ -52,17 +58,41 @@ impl<R: Files> Shelf for FileShelf<'_, R> {
     }
 }
 
-/// A sink over standard output. It tells nothing of what was written.
+/// How many of the first bytes that were written are kept: a line of names and one of letters of
+/// `MAX_TESTS` tests, or the line of a refusal.
+const KEPT_BYTES: usize = 70_000;
+
+/// A sink over standard output. It tells contracts nothing of what was written; for what is said to
+/// a person it keeps the first bytes.
 #[derive(Drop)]
 pub struct StdoutSink<'a, P> {
     rt: &'a P,
     faults: u64,
+    front: Vec<u8>,
 }
 
 impl<'a, P: Print> StdoutSink<'a, P> {
     /// A sink without faults so far.
-    pub fn new(rt: &'a P) -> StdoutSink<'a, P> {
-        StdoutSink { rt, faults: 0 }
+    pub fn new(rt: &'a P, alloc: Global) -> StdoutSink<'a, P> {
+        StdoutSink {
+            rt,
+            faults: 0,
+            front: Vec::new(alloc),
+        }
+    }
+
+    /// The first bytes that were written, at most `KEPT_BYTES`; fewer where memory ran out.
+    pub fn front(&self) -> &[u8] {
+        self.front.as_slice()
+    }
+
+    /// Keeps bytes that were written, as far as there is room.
+    fn keep(&mut self, written: &[u8])
+        ensures { self.new.faults ≡ self.old.faults }
+    {
+        let room = KEPT_BYTES.saturating_sub(self.front.len());
+        let kept = written.get(..room).unwrap_or(written);
+        let _ = self.front.extend_from_slice(kept);
     }
 }
 
@@ -73,7 +103,10 @@ impl<P: Print> Sink for StdoutSink<'_, P> {
 
     fn write(&mut self, piece: &[u8]) -> Result<usize, SinkFailed> {
         match io::writer(self.rt).write(piece) {
-            Ok(count) if count > 0 || piece.is_empty() => Ok(count),
+            Ok(count) if count > 0 || piece.is_empty() => {
+                self.keep(piece.get(..count).unwrap_or(piece));
+                Ok(count)
+            }
             _ => {
                 self.faults = self.faults.saturating_add(1);
                 Err(SinkFailed)

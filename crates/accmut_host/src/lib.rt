@@ -3,8 +3,8 @@
 #![tactic(auto)]
 
 mod adapters;
-mod meaning;
 mod program;
+mod said;
 
 pub use program::run_program;
 

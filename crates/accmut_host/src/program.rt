@@ -1,7 +1,7 @@
 //! What the program does with the words that it is given.
 
 use crate::adapters::{FileShelf, StdoutSink};
-use crate::meaning::meaning;
+use crate::said::say;
 use accmut_app::{Status, accmut};
 use am_base::OutOfMemory;
 use exec_core::Meter;
@@ -19,13 +19,15 @@ fn words<R: Env + AllocGlobal>(rt: &R) -> Result<Vec<String>, OutOfMemory> {
     Ok(args.skip(1).collect(rt.alloc())?)
 }
 
-/// Carries out what the words after the program's name ask for, with the pickers `depth`, `breadth`
-/// and `smallest`, and the ports `abs`, `labs`, `isdigit` and `isspace`.
-fn run<R: Env + Files + Print + AllocGlobal>(rt: &R) -> Result<Status, OutOfMemory> {
+/// Carries out what words ask for, with the pickers `depth`, `breadth` and `smallest`, and the
+/// ports `abs`, `labs`, `isdigit` and `isspace`.
+fn run<R: Files + Print + AllocGlobal>(
+    rt: &R,
+    words: &[String],
+    sink: &mut StdoutSink<'_, R>,
+) -> Result<Status, OutOfMemory> {
     let alloc = rt.alloc();
-    let words = words(rt)?;
     let mut shelf = FileShelf::new(rt);
-    let mut sink = StdoutSink::new(rt);
     let depth: Box<dyn Picker> = Box::new(alloc, DepthFirst::new())?;
     let breadth: Box<dyn Picker> = Box::new(alloc, BreadthFirst::new())?;
     let smallest: Box<dyn Picker> = Box::new(alloc, SmallestFirst::new())?;
@@ -37,23 +39,20 @@ fn run<R: Env + Files + Print + AllocGlobal>(rt: &R) -> Result<Status, OutOfMemo
     let mut ports = vec![in alloc; abs, labs, is_digit, is_space]?;
     let mut meter = Meter::new();
     Ok(accmut(
-        alloc,
-        words.as_slice(),
-        &mut shelf,
-        &mut sink,
-        pickers,
-        &mut ports,
-        &mut meter,
+        alloc, words, &mut shelf, sink, pickers, &mut ports, &mut meter,
     ))
 }
 
 /// Carries out what the words after the program's name ask for, and returns the number of the
-/// status as the exit status. What a status other than 0 means is told on standard error in one
-/// line. Want of memory for what is made here is status 7.
+/// status as the exit status. What a status other than 0 means, and which tests the unchanged
+/// program fails, is told on standard error. Want of memory for what is made here is status 7.
 pub fn run_program<R: Env + Files + Print + Eprint + AllocGlobal>(rt: &R) -> ExitCode {
-    let status = run(rt).unwrap_or(Status::OutOfMemory);
-    if let Some(line) = meaning(status) {
-        let _ = eprintln!(rt; "accmut: {line}");
-    }
+    let Ok(words) = words(rt) else {
+        say(rt, &[], Status::OutOfMemory, b"");
+        return ExitCode::from(Status::OutOfMemory.number());
+    };
+    let mut sink = StdoutSink::new(rt, rt.alloc());
+    let status = run(rt, words.as_slice(), &mut sink).unwrap_or(Status::OutOfMemory);
+    say(rt, words.as_slice(), status, sink.front());
     ExitCode::from(status.number())
 }

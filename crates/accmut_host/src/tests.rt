@@ -24,8 +24,9 @@ fn a_shelf_reads_a_file_from_a_place(rt: HostRuntime) -> Result<(), Fail> {
 
 #[test]
 fn a_sink_takes_a_piece(rt: HostRuntime) -> Result<(), Fail> {
-    let mut sink = StdoutSink::new(&rt);
+    let mut sink = StdoutSink::new(&rt, rt.alloc());
     assert_eq!(rt; sink.write(b""), Ok(0));
     assert_eq!(rt; sink.write(b"a piece\n"), Ok(8));
+    assert_eq!(rt; sink.front(), b"a piece\n".as_slice());
     Ok(())
 }
