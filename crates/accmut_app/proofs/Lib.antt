@@ -1,4 +1,5 @@
 mod Asked
+mod Called
 pub mod Due
 mod FoundAnswers
 mod Picked

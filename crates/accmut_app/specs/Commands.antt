@@ -4,6 +4,7 @@
 --     steps_of budget           the budget of a test that states none
 --     plan_of signs answers c   the plan of a command, with ports of these signs that answer so
 --     names_of c                the names of the files that a command reads, in their order
+--     names_asked o             the same, and none where no command is asked for
 use Rattle.std.specs.Prelude.{ℕ, List, [], ◌∷◌, Bool, true, false, ◌||◌, if◌then◌else◌, Option, Some, None, unwrap_or}
 use Rattle.std.specs.Str.{bytes_eq}
 use Rattle.am_base.specs.declared.limits.TheConstants.{DEFAULT_BUDGET}
@@ -59,3 +60,7 @@ names_of (Run files budget order splits) = names_in files
 names_of (Alone files mutant test budget) = names_in files
 names_of (Groups files test step budget order) = names_in files
 names_of (Load number) = []
+
+abbrev pub names_asked : Option (Command Text) → List Text
+names_asked None = []
+names_asked (Some c) = names_of c

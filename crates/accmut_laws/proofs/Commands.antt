@@ -17,17 +17,18 @@ use Rattle.command_plan.proofs.Agreed.{ends_agreed}
 use Rattle.command_plan.proofs.OneEnd.{one_end}
 use Rattle.commands.specs.Alone.{IsRunText, IsRunRise, mutant_numbered, test_numbered}
 use Rattle.commands.specs.Groups.{AreGroups, IsGroupsRise}
+use Rattle.commands.specs.Plans.{is_listable, list_plan}
 use Rattle.commands.proofs.OneText.{text-one, rise-one}
 use Rattle.commands.proofs.OneReport as report
 use Rattle.commands.proofs.OneGroups as groups
-use Rattle.accmut_app.specs.Commands.{names_of, plan_of, steps_of}
+use Rattle.accmut_app.specs.Commands.{names_of, plan_of}
 use Rattle.accmut_app.proofs.Due.{plan_sharp, plan_named}
 use Rattle.accmut_laws.proofs.OneText.{IsSingle, single_want, bound_single, one_whole}
 
 module _ (signs : List PortSign) (answers : List (List ℕ → Option ℕ)) where
   plan_single : (c : Command Text) → IsSingle (plan_of signs answers c)
   plan_single (Check name) = λ m. ((λ t u h k. h ∙ sym k), (λ a b h k. h ∙ sym k))
-  plan_single (Make name) = λ m. bound_single _ _ ((λ t u h k. h ∙ sym k), (λ a b h k. h ∙ sym k))
+  plan_single (Make name) = λ m. bound_single (is_listable m) (list_plan m) ((λ t u h k. h ∙ sym k), (λ a b h k. h ∙ sym k))
   plan_single (Run files budget order splits) = λ m all suite.
       (report.report-one m.code all (answers_in answers) suite (Report splits), report.rise-one m.code all (answers_in answers) suite)
   plan_single (Alone files mutant test budget) = λ m all suite.

@@ -1,2 +1,10 @@
 mod OneText
 mod Commands
+mod Again
+mod ListTables
+mod Passed
+mod SharedSteps
+mod ClassText
+mod GroupsText
+mod Headlines
+mod Reports

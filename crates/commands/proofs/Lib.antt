@@ -6,6 +6,7 @@ pub mod UnmovedLemmas
 pub mod GroupsLemmas
 pub mod Sharp
 pub mod Names
+mod NoPorts
 pub mod OneText
 pub mod OneReport
 pub mod ClassLemmas

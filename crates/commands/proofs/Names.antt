@@ -19,7 +19,7 @@ use Rattle.commands.specs.declared.wanted.Point.{Point}
 use Rattle.commands.specs.declared.wanted.Wanted.{Wanted}
 use Rattle.commands.specs.Alone.{IsRunText, IsRunRise, mutant_numbered, test_numbered}
 use Rattle.commands.specs.Groups.{AreGroups, IsGroupsRise}
-use Rattle.commands.specs.Plans.{check_plan, make_plan, files_plan, run_plan, run_end, alone_plan, alone_end, groups_plan, groups_end, load_plan}
+use Rattle.commands.specs.Plans.{check_plan, make_plan, is_listable, list_plan, files_plan, run_plan, run_end, alone_plan, alone_end, groups_plan, groups_end, load_plan}
 
 pub check_named : (signs : List PortSign) (name : Text) → AreNames (name ∷ []) (check_plan signs name)
 check_named signs name = (contains_here name [], λ m. tt)
@@ -29,7 +29,7 @@ bound_named names false next h = tt
 bound_named names true next h = h
 
 pub make_named : (signs : List PortSign) (name : Text) → AreNames (name ∷ []) (make_plan signs name)
-make_named signs name = (contains_here name [], λ m. bound_named _ _ _ tt)
+make_named signs name = (contains_here name [], λ m. bound_named (name ∷ []) (is_listable m) (list_plan m) (tt {0}))
 
 abbrev names_of : Text → Text → Text → List Text
 names_of name mutants tests = name ∷ mutants ∷ tests ∷ []

@@ -29,21 +29,21 @@ use Rattle.commands.proofs.OneText.{lists-alike, trials-one}
 
 -- ---- lists in rising order
 
-abbrev Rises : List ℕ → Type 0
+abbrev pub Rises : List ℕ → Type 0
 Rises xs = AllPairs (λ x y. x < y) xs
 
-above : (x : ℕ) (xs : List ℕ) → Rises (x ∷ xs) → (k : ℕ) → Contains xs k → x < k
+pub above : (x : ℕ) (xs : List ℕ) → Rises (x ∷ xs) → (k : ℕ) → Contains xs k → x < k
 above x xs r k c = subst (λ y. x < y) c.2 (r 0 (suc c.0) k (omega arith) (let l = c.1 in omega arith))
 
 later : (x : ℕ) (xs : List ℕ) → Rises (x ∷ xs) → Rises xs
 later x xs r i j d lt l = r (suc i) (suc j) d (omega arith) (omega arith)
 
-first_least : (xs : List ℕ) → Rises xs → (k : ℕ) → Contains xs k → slice_index xs 0 ≤ k
+pub first_least : (xs : List ℕ) → Rises xs → (k : ℕ) → Contains xs k → slice_index xs 0 ≤ k
 first_least [] r k c = absurd (let l = c.1 in omega arith)
 first_least (x ∷ xs) r k c =
     ⊎_elim (λ (e : x ≡ k). omega (arith, e)) (λ d. let l = above x xs r k d in omega (arith, l)) (contains_cases x k xs c)
 
-first_there : (xs : List ℕ) → 0 < length xs → Contains xs (slice_index xs 0)
+pub first_there : (xs : List ℕ) → 0 < length xs → Contains xs (slice_index xs 0)
 first_there [] l = absurd (omega arith)
 first_there (x ∷ xs) l = contains_here x xs
 
@@ -72,7 +72,7 @@ tail_ordered : (x : ℕ) (xs : List ℕ) → IsNonDecreasing (x ∷ xs) → IsNo
 tail_ordered x xs h i j d le l = h (suc i) (suc j) d (omega arith) (omega arith)
 
 -- a list has one order
-ordered-one : (xs ys : List ℕ) → IsNonDecreasing xs → IsNonDecreasing ys → IsPermutation xs ys → xs ≡ ys
+pub ordered-one : (xs ys : List ℕ) → IsNonDecreasing xs → IsNonDecreasing ys → IsPermutation xs ys → xs ≡ ys
 ordered-one [] [] h g p = refl
 ordered-one [] (y ∷ ys) h g p = absurd (let l = length_permutation [] (y ∷ ys) p in omega (arith, l))
 ordered-one (x ∷ xs) [] h g p = absurd (let l = length_permutation (x ∷ xs) [] p in omega (arith, l))
@@ -103,7 +103,7 @@ least_of e = slice_index e.members 0
 
 module _ (T : Trial State Change) where
   -- two classes with a common member
-  class-one : (e f : Ended) → IsEnded T e → IsEnded T f → (m : ℕ) → Contains e.members m → Contains f.members m → e ≡ f
+  pub class-one : (e f : Ended) → IsEnded T e → IsEnded T f → (m : ℕ) → Contains e.members m → Contains f.members m → e ≡ f
   class-one e f h g m c d =
       let members : e.members ≡ f.members = same_elements e.members f.members (AllPairs-from_increasing e.members h.rising)
       (AllPairs-from_increasing f.members g.rising)

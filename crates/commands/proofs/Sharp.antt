@@ -23,7 +23,7 @@ use Rattle.commands.specs.declared.wanted.Point.{Point}
 use Rattle.commands.specs.declared.wanted.Wanted.{Wanted}
 use Rattle.commands.specs.Alone.{IsRunText, IsRunRise, mutant_numbered, test_numbered}
 use Rattle.commands.specs.Groups.{AreGroups, IsGroupsRise}
-use Rattle.commands.specs.Plans.{check_plan, make_plan, files_plan, run_plan, run_end, alone_plan, alone_end, groups_plan, groups_end, load_plan}
+use Rattle.commands.specs.Plans.{check_plan, make_plan, is_listable, list_plan, files_plan, run_plan, run_end, alone_plan, alone_end, groups_plan, groups_end, load_plan}
 
 pub check_sharp : (signs : List PortSign) (name : Text) → IsSharp (check_plan signs name)
 check_sharp signs name = (refused-one signs, refused-accepted signs, accepted-one signs, λ file m h. tt)
@@ -33,7 +33,7 @@ bound_sharp false next h = tt
 bound_sharp true next h = h
 
 pub make_sharp : (signs : List PortSign) (name : Text) → IsSharp (make_plan signs name)
-make_sharp signs name = (refused-one signs, refused-accepted signs, accepted-one signs, λ file m h. bound_sharp _ _ tt)
+make_sharp signs name = (refused-one signs, refused-accepted signs, accepted-one signs, λ file m h. bound_sharp (is_listable m) (list_plan m) (tt {0}))
 
 -- a plan over three files is sharp where what follows is
 files_sharp : (signs : List PortSign) (budget : ℕ) (name mutants tests : Text) (next : Loaded → List Made → Suite → Plan)

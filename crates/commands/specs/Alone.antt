@@ -4,11 +4,9 @@ use Rattle.code_form.specs.declared.code.Code.{Code}
 use Rattle.code_form.specs.declared.code.TyScalar.{TyScalar}
 use Rattle.code_form.specs.Places.{function_at}
 use Rattle.code_form.specs.Variant.{Table}
-use Rattle.machine_form.specs.declared.change.Change.{Change}
 use Rattle.machine_form.specs.Calls.{Answers}
-use Rattle.machine_form.specs.State.{State}
-use Rattle.machine_form.specs.Machine.{case_trial, outcome_of}
-use Rattle.traces.specs.Trace.{Trial, trace}
+use Rattle.machine_form.specs.Machine.{outcome_of}
+use Rattle.traces.specs.Trace.{trace}
 use Rattle.plain_machine.specs.Tolls.{tolls_of}
 use Rattle.mutant_records.specs.Tables.{IsListOf}
 use Rattle.mutant_records.specs.declared.list.Made.{Made}
@@ -16,14 +14,12 @@ use Rattle.mutant_records.specs.declared.list.MutantList.{MutantList}
 use Rattle.test_suite.specs.declared.suite.Test.{Test}
 use Rattle.command_texts.specs.Alone.{alone_text}
 use Rattle.command_plan.specs.Plan.{Counts}
+-- the trial of a test, where the mutants have the replacements of a table
+pub use Rattle.suite_analysis.specs.Runs.{trial_on}
 
 -- the steps on a meter and the asks of each port of a list
 abbrev pub counts_of : ℕ → (ℕ → ℕ) → Counts
 counts_of steps asks = record { steps = steps; asks = asks }
-
--- the trial of a test, where the mutants have the replacements of a table
-abbrev pub trial_on : Code → Table → Answers → Test → Trial State Change
-trial_on code table answers test = case_trial code table answers test.case
 
 -- the type of the result of a test's function
 abbrev pub result_type : Code → Test → Option TyScalar

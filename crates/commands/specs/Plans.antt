@@ -1,5 +1,5 @@
 -- The plan of each command.
-use Rattle.std.specs.Prelude.{◌≡◌, ℕ, List, [], codes, length, nat_le}
+use Rattle.std.specs.Prelude.{◌≡◌, ℕ, Bool, List, [], codes, length, nat_le}
 use Rattle.am_base.specs.declared.limits.TheConstants.{DEFAULT_BUDGET, MAX_LISTED_MUTANTS}
 use Rattle.code_form.specs.declared.sign.PortSign.{PortSign}
 use Rattle.ports.specs.Asks.{answers_in}
@@ -33,9 +33,16 @@ check_plan signs name =
     (λ m. Write (λ text. text ≡ accepted_text m.module.items) (λ counts. counts ≡ no_counts))
 
 -- `make`: the module, and the list of the mutants that the makers make of it, unless they are too many
+-- at most as many mutants are made as a list may have
+abbrev pub is_listable : Loaded → Bool
+is_listable m = nat_le (length (made m.module m.code)) MAX_LISTED_MUTANTS
+
+-- the list of the made mutants is due
+abbrev pub list_plan : Loaded → Plan
+list_plan m = Write (λ text. text ≡ list_text (made m.module m.code)) (λ counts. counts ≡ no_counts)
+
 abbrev pub make_end : Loaded → Plan
-make_end m =
-    Bound (nat_le (length (made m.module m.code)) MAX_LISTED_MUTANTS) (Write (λ text. text ≡ list_text (made m.module m.code)) (λ counts. counts ≡ no_counts))
+make_end m = Bound (is_listable m) (list_plan m)
 
 abbrev pub make_plan : List PortSign → Text → Plan
 make_plan signs name = Read name input.Module (module_file.IsRefused signs) Loaded (module_file.IsAccepted signs) make_end

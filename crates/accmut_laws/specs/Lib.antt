@@ -1,0 +1,5 @@
+pub mod Shares
+pub mod Classes
+pub mod Passes
+pub mod Headline
+pub mod Orders
