@@ -1,14 +1,10 @@
 //! The top call over any ports.
 
-ghost use Rattle.std.specs.Prelude.{◌≡◌, ℕ, ◌+◌, ◌≤◌, ◌<◌, ◌^◌, ◌↔◌, List, length, map, None, Some};
-ghost use Rattle.am_base.specs.Cause.{Rose};
+ghost use Rattle.std.specs.Prelude.{◌≡◌, ℕ, ◌+◌, ◌≤◌, ◌<◌, ◌^◌, List, [], length, map};
 ghost use Rattle.ports.specs.Asks.{asked_in};
-ghost use Rattle.command_words.specs.Words.{Text, texts_of};
-ghost use Rattle.command_words.specs.declared.command.Command.{Command};
-ghost use Rattle.command_words.specs.declared.command.Command.TheVariants.{Load};
-ghost use Rattle.command_plan.specs.Answer.{IsAnswer, Stay};
-ghost use Rattle.commands.specs.Alone.{counts_of};
-ghost use Rattle.accmut_app.specs.Commands.{asked_for, plan_of};
+ghost use Rattle.command_words.specs.Words.{texts_of};
+ghost use Rattle.accmut_app.specs.Call.{Devices, IsCall};
+ghost use Rattle.accmut_app.specs.Commands.{asked_for, names_asked};
 
 use crate::carried::{with_picker, without_picker};
 use crate::picking::first_named;
@@ -33,30 +29,24 @@ pub(crate) fn accmut_over<F: Shelf, K: Sink, P: Ports>(
     requires few_signs { length (P.outside ports).signs < 2 ^ 32 }
     requires few { (p : ℕ) → asked_in (P.outside ports).asked p ≤ 2 ^ 62 }
     requires room { meter.old ≤ 2 ^ 62 }
-    ensures usage { (result.1 ≡ Status.Usage) ↔ (asked_for (map (λ q. named q) pickers.items) (texts_of words.now) ≡ None) }
-    ensures unasked { asked_for (map (λ q. named q) pickers.items) (texts_of words.now) ≡ None →
-        K.written sink.new ≡ K.written sink.old }
-    ensures stays { asked_for (map (λ q. named q) pickers.items) (texts_of words.now) ≡ None →
-        Stay (counts_of meter.old (asked_in (P.outside ports).asked))
-        (counts_of meter.new (asked_in (P.outside result.0).asked)) }
-    ensures quiet { asked_for (map (λ q. named q) pickers.items) (texts_of words.now) ≡ None →
-        ((name : List ℕ) → F.faults shelf.new name ≡ F.faults shelf.old name) × (K.faults sink.new ≡ K.faults sink.old) }
-    ensures answer { (c : Command Text) → asked_for (map (λ q. named q) pickers.items) (texts_of words.now) ≡ Some c →
-        IsAnswer (F.files shelf.old) (λ name. Rose (F.faults shelf.old name) (F.faults shelf.new name))
-        (plan_of (P.outside ports).signs (P.outside ports).answers c)
-        (counts_of meter.old (asked_in (P.outside ports).asked))
-        (counts_of meter.new (asked_in (P.outside result.0).asked))
-        (K.written sink.old) (K.written sink.new) (Rose (K.faults sink.old) (K.faults sink.new)) result.1 }
-    ensures unread { (number : ℕ) → asked_for (map (λ q. named q) pickers.items) (texts_of words.now) ≡ Some (Load number) →
-        shelf.new ≡ shelf.old }
-    ensures untouched { (number : ℕ) → asked_for (map (λ q. named q) pickers.items) (texts_of words.now) ≡ Some (Load number) →
-        ((name : List ℕ) → F.faults shelf.new name ≡ F.faults shelf.old name)
-        × ((p : ℕ) → asked_in (P.outside result.0).asked p ≡ asked_in (P.outside ports).asked p) }
-    ensures signs { (P.outside result.0).signs ≡ (P.outside ports).signs }
-    ensures answers { (P.outside result.0).answers ≡ (P.outside ports).answers }
-    ensures kept { F.files shelf.new ≡ F.files shelf.old }
-    ensures counts { (other : List ℕ) → F.faults shelf.old other ≤ F.faults shelf.new other }
-    ensures sink_counts { K.faults sink.old ≤ K.faults sink.new }
+    ensures call { let before : Devices = record {
+      files = F.files shelf.old;
+      written = K.written sink.old;
+      faults = F.faults shelf.old;
+      sink_faults = K.faults sink.old;
+      ports = P.outside ports;
+      steps = meter.old;
+    } in
+        let after : Devices = record {
+          files = F.files shelf.new;
+          written = K.written sink.new;
+          faults = F.faults shelf.new;
+          sink_faults = K.faults sink.new;
+          ports = P.outside result.0;
+          steps = meter.new;
+        } in
+        IsCall (asked_for (map (λ q. named q) pickers.items) (texts_of words.now)) before after result.1 }
+    ensures unread { names_asked (asked_for (map (λ q. named q) pickers.items) (texts_of words.now)) ≡ [] → shelf.new ≡ shelf.old }
 {
     let Some(command) = command_of(words) else {
         return (ports, Status::Usage);

@@ -82,9 +82,9 @@ pub(crate) fn with_picker<F: Shelf, K: Sink, P: Ports>(
         (counts_of meter.old (asked_in (P.outside ports).asked))
         (counts_of meter.new (asked_in (P.outside result.0).asked))
         (K.written sink.old) (K.written sink.new) (Rose (K.faults sink.old) (K.faults sink.new)) result.1 }
-    ensures unread { (number : ℕ) → meant command ≡ Load number →
+    ensures unread { (number : ℕ) → meant command.entry ≡ Load number →
         shelf.new ≡ shelf.old }
-    ensures untouched { (number : ℕ) → meant command ≡ Load number →
+    ensures untouched { (number : ℕ) → meant command.entry ≡ Load number →
         ((name : List ℕ) → F.faults shelf.new name ≡ F.faults shelf.old name)
         × ((p : ℕ) → asked_in (P.outside result.0).asked p ≡ asked_in (P.outside ports).asked p) }
     ensures signs { (P.outside result.0).signs ≡ (P.outside ports).signs }

@@ -10,6 +10,3 @@ mod written;
 
 pub use command_plan::Status;
 pub use top::accmut;
-
-#[cfg(test)]
-mod tests;

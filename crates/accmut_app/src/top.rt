@@ -1,18 +1,10 @@
 //! `accmut`: the words, the answer and what is written.
 
-ghost use Rattle.std.specs.Prelude.{◌≡◌, ◌⊎◌, ◌↔◌, ℕ, ◌+◌, ◌≤◌, ◌<◌, ◌^◌, List, length, map, None, Option, Some};
-ghost use Rattle.std.specs.List.{Contains};
-ghost use Rattle.am_base.specs.Cause.{Rose};
+ghost use Rattle.std.specs.Prelude.{◌≡◌, ℕ, ◌+◌, ◌≤◌, ◌<◌, ◌^◌, List, [], length, map};
 ghost use Rattle.ports.specs.Asks.{asked_in};
-ghost use Rattle.command_words.specs.Words.{Text, texts_of};
-ghost use Rattle.command_words.specs.declared.command.Command.{Command};
-ghost use Rattle.command_words.specs.declared.command.Command.TheVariants.{Load};
-ghost use Rattle.command_plan.specs.Answer.{IsAnswer, Stay};
-ghost use Rattle.command_plan.specs.Ends.{Accepted, End, status_of};
-ghost use Rattle.command_plan.specs.Plan.{Counts};
-ghost use Rattle.command_plan.specs.Sharp.{IsDueEnd};
-ghost use Rattle.commands.specs.Alone.{counts_of};
-ghost use Rattle.accmut_app.specs.Commands.{asked_for, names_of, plan_of};
+ghost use Rattle.command_words.specs.Words.{texts_of};
+ghost use Rattle.accmut_app.specs.Call.{Devices, IsCall};
+ghost use Rattle.accmut_app.specs.Commands.{asked_for, names_asked};
 
 use crate::call::accmut_over;
 use crate::own_ports::OwnPorts;
@@ -38,10 +30,10 @@ use std::mem;
 /// time, and nothing is written then. `load` runs over files of its own, and without the ports.
 ///
 /// The first picker of the wanted name is used, and all of them are dropped. Of two ports with one
-/// name the first counts; the ports are given back in their order, with their signs and answers as
-/// they were. Each was asked, and the meter rose, as `answer` says, the table of what each status
-/// says of the plan of the command (`plan_of`). `due` is the status that the bytes of the files ask
-/// for, and `complete` its part for files that are accepted.
+/// name the first counts; the ports are given back in their order. `call` says all of this of what
+/// is seen before the call and after it (`specs/Call.antt`): in it `answer` is the table of what
+/// each status says of the plan of the command. `unread`: where no file is named the shelf isn't
+/// called.
 pub fn accmut<F: Shelf, K: Sink>(
     alloc: Global,
     words: &[String],
@@ -54,51 +46,32 @@ pub fn accmut<F: Shelf, K: Sink>(
     requires few_signs { length ports.old.items < 2 ^ 32 }
     requires few { (p : ℕ) → asked_in (map (λ q. asked q) ports.old.items) p ≤ 2 ^ 62 }
     requires room { meter.old ≤ 2 ^ 62 }
-
-    // Wrong use.
-    ensures usage { (result ≡ Status.Usage) ↔ (asked_for (map (λ q. named q) pickers.items) (texts_of words.now) ≡ None) }
-    ensures unasked { asked_for (map (λ q. named q) pickers.items) (texts_of words.now) ≡ None → K.written sink.new ≡ K.written sink.old }
-    ensures stays { asked_for (map (λ q. named q) pickers.items) (texts_of words.now) ≡ None →
-        Stay (counts_of meter.old (asked_in (map (λ q. asked q) ports.old.items)))
-        (counts_of meter.new (asked_in (map (λ q. asked q) ports.new.items))) }
-    ensures quiet { asked_for (map (λ q. named q) pickers.items) (texts_of words.now) ≡ None →
-        ((name : List ℕ) → F.faults shelf.new name ≡ F.faults shelf.old name) × (K.faults sink.new ≡ K.faults sink.old) }
-
-    // What each other status says.
-    ensures answer { (c : Command Text) → asked_for (map (λ q. named q) pickers.items) (texts_of words.now) ≡ Some c →
-        IsAnswer (F.files shelf.old) (λ name. Rose (F.faults shelf.old name) (F.faults shelf.new name))
-        (plan_of (map (λ q. sign q) ports.old.items) (map (λ q. answers q) ports.old.items) c)
-        (counts_of meter.old (asked_in (map (λ q. asked q) ports.old.items)))
-        (counts_of meter.new (asked_in (map (λ q. asked q) ports.new.items)))
-        (K.written sink.old) (K.written sink.new) (Rose (K.faults sink.old) (K.faults sink.new)) result }
-
-    // Which status is due.
-    ensures due { (c : Command Text) (held : List ℕ → Option (List ℕ)) (end : End)
-        → asked_for (map (λ q. named q) pickers.items) (texts_of words.now) ≡ Some c → F.files shelf.old ≡ Some held
-        → ((name : List ℕ) → Contains (names_of c) name → Rose (F.faults shelf.old name) (F.faults shelf.new name) → held name ≡ None)
-        → ¬ (Rose (K.faults sink.old) (K.faults sink.new))
-        → IsDueEnd held (plan_of (map (λ q. sign q) ports.old.items) (map (λ q. answers q) ports.old.items) c) end
-        → (result ≡ status_of end) ⊎ (result ≡ Status.OutOfMemory) }
-    ensures complete { (c : Command Text) (held : List ℕ → Option (List ℕ)) (counts : Counts)
-        → asked_for (map (λ q. named q) pickers.items) (texts_of words.now) ≡ Some c → F.files shelf.old ≡ Some held
-        → ((name : List ℕ) → Contains (names_of c) name → ¬ (Rose (F.faults shelf.old name) (F.faults shelf.new name)))
-        → ¬ (Rose (K.faults sink.old) (K.faults sink.new))
-        → IsDueEnd held (plan_of (map (λ q. sign q) ports.old.items) (map (λ q. answers q) ports.old.items) c) (Accepted counts)
-        → (result ≡ Status.Done) ⊎ (result ≡ Status.OutOfMemory) }
-
-    // `load` calls no shelf and asks no port.
-    ensures unread { (number : ℕ) → asked_for (map (λ q. named q) pickers.items) (texts_of words.now) ≡ Some (Load number) →
-        shelf.new ≡ shelf.old }
-    ensures untouched { (number : ℕ) → asked_for (map (λ q. named q) pickers.items) (texts_of words.now) ≡ Some (Load number) →
-        ((name : List ℕ) → F.faults shelf.new name ≡ F.faults shelf.old name)
-        × ((p : ℕ) → asked_in (map (λ q. asked q) ports.new.items) p ≡ asked_in (map (λ q. asked q) ports.old.items) p) }
-
-    // Whatever it answers.
-    ensures signs { map (λ q. sign q) ports.new.items ≡ map (λ q. sign q) ports.old.items }
-    ensures answers { map (λ q. answers q) ports.new.items ≡ map (λ q. answers q) ports.old.items }
-    ensures kept { F.files shelf.new ≡ F.files shelf.old }
-    ensures counts { (other : List ℕ) → F.faults shelf.old other ≤ F.faults shelf.new other }
-    ensures sink_counts { K.faults sink.old ≤ K.faults sink.new }
+    ensures call { let before : Devices = record {
+      files = F.files shelf.old;
+      written = K.written sink.old;
+      faults = F.faults shelf.old;
+      sink_faults = K.faults sink.old;
+      ports = record {
+        signs = map (λ q. sign q) ports.old.items;
+        answers = map (λ q. answers q) ports.old.items;
+        asked = map (λ q. asked q) ports.old.items;
+      };
+      steps = meter.old;
+    } in
+        let after : Devices = record {
+          files = F.files shelf.new;
+          written = K.written sink.new;
+          faults = F.faults shelf.new;
+          sink_faults = K.faults sink.new;
+          ports = record {
+            signs = map (λ q. sign q) ports.new.items;
+            answers = map (λ q. answers q) ports.new.items;
+            asked = map (λ q. asked q) ports.new.items;
+          };
+          steps = meter.new;
+        } in
+        IsCall (asked_for (map (λ q. named q) pickers.items) (texts_of words.now)) before after result }
+    ensures unread { names_asked (asked_for (map (λ q. named q) pickers.items) (texts_of words.now)) ≡ [] → shelf.new ≡ shelf.old }
 {
     let all = mem::replace(ports, Vec::new(alloc));
     let (own, status) = accmut_over(alloc, words, shelf, sink, pickers, OwnPorts { all }, meter);

@@ -2,7 +2,7 @@
 
 ghost use Rattle.std.specs.Prelude.{◌≡◌, ℕ, ◌+◌, ◌≤◌, ◌<◌, ◌^◌, List, length, Some};
 ghost use Rattle.am_base.specs.Cause.{Rose};
-ghost use Rattle.am_base.specs.Files.{Files};
+ghost use Rattle.am_base.specs.Files.{Files as AllFiles};
 ghost use Rattle.ports.specs.Asks.{answers_in, asked_in};
 ghost use Rattle.work_report.specs.declared.show.Show.TheVariants.{Report};
 ghost use Rattle.command_words.specs.Words.{IsBudget};
@@ -241,7 +241,7 @@ pub(crate) fn load_written<K: Sink>(
     meter: &mut Meter,
 ) -> Status
     requires room { meter.old ≤ 2 ^ 62 }
-    ensures answer { (files : Files) (before after : List ℕ → ℕ) (asks : ℕ → ℕ) →
+    ensures answer { (files : AllFiles) (before after : List ℕ → ℕ) (asks : ℕ → ℕ) →
         IsAnswer files (λ name. Rose (before name) (after name)) (load_plan number) (counts_of meter.old asks) (counts_of meter.new asks)
         (K.written sink.old) (K.written sink.new) (Rose (K.faults sink.old) (K.faults sink.new)) result }
     ensures sink_counts { K.faults sink.old ≤ K.faults sink.new }

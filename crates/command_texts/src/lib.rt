@@ -9,6 +9,3 @@ mod groups;
 pub use accepted::accepted_text;
 pub use alone::alone_text;
 pub use groups::groups_text;
-
-#[cfg(test)]
-mod tests;

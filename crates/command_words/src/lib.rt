@@ -10,6 +10,3 @@ mod read;
 pub use command::{Command, Files, wanted};
 pub use laws::{budgets_are_within, numbers_are_printed};
 pub use read::command_of;
-
-#[cfg(test)]
-mod tests;

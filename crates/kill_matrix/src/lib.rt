@@ -6,6 +6,3 @@ mod matrix;
 
 pub use letter::{Letter, verdict};
 pub use matrix::Matrix;
-
-#[cfg(test)]
-mod tests;

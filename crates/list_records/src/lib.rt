@@ -4,8 +4,6 @@
 
 mod decimal;
 mod record;
-#[cfg(test)]
-mod tests;
 
 pub use decimal::{Decimal, decimal_of, number_within, word_within};
 pub use record::{field, next_record, reader_of};

@@ -28,8 +28,8 @@ const SUITE: &str = "name;function;arguments;input;budget;expected
 t1;f;2 2;;;
 ";
 
-/// A picker of the name `told`. Three digits of its number are one pick: the first offer's step, how
-/// many executions are live, and the first offer's members.
+/// A picker of the name `told`. Three digits of its number are one pick: the first offer's step,
+/// how many executions are live, and the first offer's members.
 #[derive(Drop)]
 struct Told {
     number: Rc<Cell<u64>>,
@@ -76,13 +76,21 @@ fn shelf_of(alloc: Global, files: &[(&str, &str)]) -> Result<MemoryShelf, AllocE
     Ok(MemoryShelf::new(held, Vec::new(alloc)))
 }
 
-/// The number after `run` over the three files, where a picker of another name stands first.
-fn number_after(alloc: Global) -> Result<u64, OutOfMemory> {
+/// The numbers of two pickers of one name after `run` over the three files, where a picker of
+/// another name is the first.
+fn numbers_after(alloc: Global) -> Result<(u64, u64), OutOfMemory> {
     let number = Rc::new(alloc, Cell::new(0u64))?;
     let told: Box<dyn Picker> = Box::new(
         alloc,
         Told {
             number: number.clone()?,
+        },
+    )?;
+    let behind = Rc::new(alloc, Cell::new(0u64))?;
+    let other: Box<dyn Picker> = Box::new(
+        alloc,
+        Told {
+            number: behind.clone()?,
         },
     )?;
     let depth: Box<dyn Picker> = Box::new(alloc, DepthFirst::new())?;
@@ -97,17 +105,19 @@ fn number_after(alloc: Global) -> Result<u64, OutOfMemory> {
         words.as_slice(),
         &mut shelf,
         &mut sink,
-        vec![in alloc; depth, told]?,
+        vec![in alloc; depth, told, other]?,
         &mut ports,
         &mut meter,
     );
-    Ok(number.get())
+    Ok((number.get(), behind.get()))
 }
 
-/// Seven picks: all four mutants at the start; then mutants 0, 2 and 3 at the steps 1, 2 and 3, with
-/// two executions live; then mutant 1 alone.
+/// Seven picks: all four mutants at the start; then mutants 0, 2 and 3 at the steps 1, 2 and 3,
+/// with two executions live; then mutant 1 alone. The second picker of the name is never asked.
 #[test]
 fn is_offered_the_tree_of_splits(rt: HostRuntime) -> Result<(), Fail> {
-    assert_eq!(rt; number_after(rt.alloc())?, 14_123_223_323_111_211_311);
+    let (first, second) = numbers_after(rt.alloc())?;
+    assert_eq!(rt; first, 14_123_223_323_111_211_311);
+    assert_eq!(rt; second, 0);
     Ok(())
 }

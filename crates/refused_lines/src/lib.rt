@@ -9,6 +9,3 @@ mod modules;
 
 pub use lists::{no_mutant_line, no_test_line, refused_mutants_line, refused_tests_line};
 pub use modules::{broken_line, unlexed_line, unread_line};
-
-#[cfg(test)]
-mod tests;

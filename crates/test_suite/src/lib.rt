@@ -5,8 +5,6 @@ mod error;
 mod expected;
 mod read;
 mod suite;
-#[cfg(test)]
-mod tests;
 
 pub use error::TestError;
 pub use read::read_tests;

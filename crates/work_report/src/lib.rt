@@ -11,6 +11,3 @@ mod works;
 pub use score::score_text;
 pub use show::{Show, shown};
 pub use text::report;
-
-#[cfg(test)]
-mod tests;

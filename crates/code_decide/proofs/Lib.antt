@@ -1,3 +1,0 @@
-pub mod Decide
-pub mod SoundCode
-pub mod Rows

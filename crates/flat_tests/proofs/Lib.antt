@@ -1,2 +1,0 @@
-mod RowsFit
-mod Tables

@@ -1,7 +1,0 @@
-use Rattle.std.proofs.Common.{refl, subst, sym}
-use Rattle.plain_tests.specs.Fitting.{PassesAt}
-use Rattle.plain_tests.specs.Trials.{trials}
-use Rattle.plain_tests.proofs.tests.trials.output.Goals as goal
-
-pub mutated-requires-clause-fits : goal.mutated-requires-clause-fits
-mutated-requires-clause-fits g c = subst (PassesAt trials 9) (sym c.in_ok-with.ensures) (λ memory bytes. refl)

@@ -1,6 +1,0 @@
-pub mod Codes
-pub mod Example
-pub mod Rows
-pub mod Trials
-pub mod Moves
-pub mod Fitting

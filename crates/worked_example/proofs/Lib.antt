@@ -1,0 +1,2 @@
+mod ExampleRows
+mod WorkedExample
