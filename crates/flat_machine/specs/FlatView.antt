@@ -15,7 +15,7 @@ use Rattle.machine_form.proofs.SameTests.{machine_same}
 use Rattle.machine_form.proofs.LightChanges.{machine_light}
 use Rattle.ports.specs.Asks.{answers_in, asked_in}
 use Rattle.flat_state.specs.Room.{HasRoom}
-use Rattle.plain_machine.specs.Running.{IsRunning}
+use Rattle.lane_eval.specs.Running.{IsRunning}
 use Rattle.flat_machine.specs.Shown.{Seen}
 use Rattle.flat_machine.specs.declared.state.FlatState.{FlatState}
 

@@ -1,68 +1,59 @@
 //! The numbers of the states that a machine has out.
-ghost use Rattle.std.specs.Prelude.{◌≡◌, ℕ, ◌<◌, [], ◌∷◌, ◌++◌, length, slice_index, IfOk, OnErr, nat_eq};
-ghost use Rattle.std.specs.List.{All, Contains, IsDistinct, IsDistinct-prop};
+ghost use Rattle.std.specs.Prelude.{◌≡◌, ℕ, [], ◌∷◌, IfOk, OnErr};
+ghost use Rattle.std.specs.List.{Contains};
 ghost use Rattle.std.specs.List.Sorted.{IsPermutation};
+ghost use Rattle.flat_machine.specs.Taken.{taken};
 
 use am_base::OutOfMemory;
 use std::alloc::Global;
 
-/// The numbers of the states that a machine has out. None is given twice: after 2^64 - 1 of them the
-/// next is refused, as for want of memory.
+/// The numbers of the states that a machine has out. A number that was taken back is given again
+/// once no higher one is out. Each call takes constant time over all calls, since a mark that is
+/// dropped was set once.
 #[derive(Debug, Drop)]
 pub struct Numbers {
-    pub out: Vec<u64>,
-    fresh: u64,
-    ghost below: { All (λ number. number < fresh) out.items },
-    ghost distinct: { IsDistinct nat_eq out.items } by { IsDistinct-prop nat_eq out.items },
+    /// For each number whether it is out. The last one is.
+    pub marks: Vec<bool>,
 }
 
 impl Numbers {
     /// No number is out. It takes no memory.
     pub fn new(alloc: Global) -> Numbers
-        ensures { result.out.items ≡ [] }
+        ensures { taken result.marks.items ≡ [] }
     {
         Numbers {
-            out: Vec::new(alloc),
-            fresh: 0,
+            marks: Vec::new(alloc),
         }
     }
 
-    /// Gives out the next number. A refusal changes nothing.
+    /// Gives out a number. A refusal changes nothing.
     pub fn give(&mut self) -> Result<u64, OutOfMemory>
-        ensures out { IfOk result (λ number. self.new.out.items ≡ self.old.out.items ++ number ∷ []) }
-        ensures err { OnErr result (self.new.out.items ≡ self.old.out.items) }
+        ensures out { IfOk result (λ number. IsPermutation (number ∷ taken self.old.marks.items) (taken self.new.marks.items)) }
+        ensures err { OnErr result (taken self.new.marks.items ≡ taken self.old.marks.items) }
     {
-        let number = self.fresh;
-        if number == u64::MAX {
-            return Err(OutOfMemory);
-        }
-        self.out.push(number)?;
-        self.fresh = number + 1;
+        let number = self.marks.len() as u64;
+        self.marks.push(true)?;
         Ok(number)
     }
 
     /// Takes a number back.
     pub fn take_back(&mut self, number: u64)
-        requires { Contains self.old.out.items number }
-        ensures { IsPermutation self.old.out.items (number ∷ self.new.out.items) }
+        requires { Contains (taken self.old.marks.items) number }
+        ensures { IsPermutation (taken self.old.marks.items) (number ∷ taken self.new.marks.items) }
     {
-        let at = place_of(&self.out, number);
-        let _ = self.out.remove(at);
+        self.marks[number as usize] = false;
+        trim(&mut self.marks);
     }
 }
 
-/// The index at which a number stands.
-fn place_of(numbers: &[u64], number: u64) -> usize
-    requires { Contains numbers.now number }
-    ensures in_range { result < length numbers.now }
-    ensures found { slice_index numbers.now result ≡ number }
+/// Drops the marks at the end that aren't set.
+fn trim(marks: &mut Vec<bool>)
+    ensures { taken marks.new.items ≡ taken marks.old.items }
 {
-    let mut at = 0;
-    for other in numbers {
-        if *other == number {
-            return at;
+    while let Some(last) = marks.last() {
+        if *last {
+            return;
         }
-        at += 1;
+        let _ = marks.pop();
     }
-    at
 }

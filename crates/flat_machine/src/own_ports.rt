@@ -6,7 +6,7 @@ ghost use Rattle.code_form.specs.Variant.{instr_of, mutants_of};
 ghost use Rattle.traces.specs.Trace.{trace};
 ghost use Rattle.machine_form.specs.Machine.{next_by, toll_of, is_known, case_trial, outcome_of};
 ghost use Rattle.ports.specs.Asks.{answers_in, asked_in, AskedBy, AskedAtMostBy};
-ghost use Rattle.plain_machine.specs.Running.{IsRunning};
+ghost use Rattle.lane_eval.specs.Running.{IsRunning};
 ghost use Rattle.plain_machine.specs.Tolls.{tolls_of};
 ghost use Rattle.flat_machine.specs.Shown.{Outside};
 

@@ -16,6 +16,8 @@ use std::alloc::Global;
 impl<'a, P: Ports> Machine for FlatOver<'a, P> {
     ghost use Rattle.machine_form.specs.State.{State};
     ghost use Rattle.flat_machine.specs.Shown.{seen_of};
+    ghost use Rattle.flat_machine.specs.Taken.{taken};
+    ghost use Rattle.flat_machine.specs.TakenLaws.{taken_distinct};
     ghost use Rattle.flat_machine.specs.FlatView.{flat_view, flat_lawful};
 
     type State = FlatState;
@@ -24,9 +26,9 @@ impl<'a, P: Ports> Machine for FlatOver<'a, P> {
 
     ghost Meaning = { State };
 
-    ghost view = { flat_view (λ m. seen_of m.subject (P.outside m.ports) m.numbers.out.items m.tried m.applied m.weighed m.readied) };
+    ghost view = { flat_view (λ m. seen_of m.subject (P.outside m.ports) (taken m.numbers.marks.items) m.tried m.applied m.weighed m.readied) };
 
-    ghost lawful = { flat_lawful (λ m. seen_of m.subject (P.outside m.ports) m.numbers.out.items m.tried m.applied m.weighed m.readied) (λ m. m.numbers.distinct) };
+    ghost lawful = { flat_lawful (λ m. seen_of m.subject (P.outside m.ports) (taken m.numbers.marks.items) m.tried m.applied m.weighed m.readied) (λ m. taken_distinct m.numbers.marks.items) };
 
     fn place(&self, s: &FlatState) -> Place {
         Place(s.flat.place())

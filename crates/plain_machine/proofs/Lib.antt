@@ -1,9 +1,1 @@
-pub mod Steps
 pub mod Turns
-pub mod Numbers
-pub mod Wrapped
-pub mod StoreSteps
-pub mod FoundSpots
-pub mod WriteSteps
-pub mod EnterSteps
-pub mod Asked

@@ -1,8 +1,5 @@
--- One more change of a trace: what is left of it, its last state, its length and its tolls. And the tolls of several variants of one place.
+-- One more change of a trace: what is left of it, its last state, its length and its tolls.
 use Rattle.std.proofs.Common.{◌≡◌, ℕ, suc, List, [], subst, ◌+◌, ◌≤◌, false, true, ◌∷◌, length, arith, sym, ◌∙◌, ap}
-use Rattle.std.specs.Prelude.{sum_by, take}
-use Rattle.std.proofs.lemmas.List.{take_all}
-use Rattle.std.proofs.lemmas.List.Sums.{sum_by-cons}
 use Rattle.traces.specs.Trace.{Trial, change_of, changes_from, state_after}
 use Rattle.traces.proofs.Trace.{ended_none, live_more, none_left}
 use Rattle.ports.specs.Asks.{asked_in, AskedBy, AskedAtMostBy}
@@ -67,12 +64,3 @@ module _ {S C : Type 0} (T U : Trial S C) (same : T ≡ U) (m : ℕ) (old new : 
       let P : S → Type 0 = λ t. (asked_in old p ≤ asked_in new p) × (asked_in new p ≤ asked_in old p + tolls_from U m p t (changes_from U m U.budget t)) in
       let Q : Trial S C → Type 0 = λ V. (asked_in old p ≤ asked_in new p) × (asked_in new p ≤ asked_in old p + tolls_from V m p s (changes_from V m V.budget s)) in
       subst P is (subst Q same (h p))
-
--- ---- the tolls of several variants
-
-pub few_tolls : (f : ℕ → ℕ) (xs : List ℕ) → ((v : ℕ) → f v ≤ 1) → sum_by f xs ≤ length xs
-few_tolls f [] h = omega arith
-few_tolls f (x ∷ xs) h = omega (arith, sum_by-cons f x xs, few_tolls f xs h, h x)
-
-pub whole_sum : (f : ℕ → ℕ) (xs : List ℕ) (i : ℕ) → length xs ≤ i → sum_by f (take i xs) ≡ sum_by f xs
-whole_sum f xs i h = ap (sum_by f) (take_all i xs h)

@@ -1,7 +1,1 @@
-pub mod Ports
-pub mod Spots
-pub mod Operands
-pub mod Plain
-pub mod Running
 pub mod Tolls
-pub mod Filled

@@ -8,16 +8,15 @@ ghost use Rattle.machine_form.specs.Machine.{next_by, case_trial, outcome_of};
 ghost use Rattle.machine_form.specs.Machine.{toll_of};
 ghost use Rattle.code_form.specs.Variant.{instr_of};
 ghost use Rattle.ports.specs.Asks.{answers_in, asked_in, AskedBy, AskedAtMostBy};
-ghost use Rattle.plain_machine.specs.Running.{IsRunning};
+ghost use Rattle.lane_eval.specs.Running.{IsRunning};
 ghost use Rattle.plain_machine.specs.Tolls.{tolls_from, tolls_of};
 
-use crate::program::Program;
-use crate::tries::fill_variant;
 use crate::turn::apply;
 use am_base::{OutOfMemory, Outcome};
 use change_set::Change;
 use code_form::{Case, Code, Place, Variants};
 use flat_state::Flat;
+use lane_eval::{Program, fill_variant};
 use ports::Port;
 use std::alloc::Global;
 

@@ -2,12 +2,11 @@
 ghost use Rattle.std.specs.Prelude.{◌≡◌};
 ghost use Rattle.machine_form.specs.After.{after_change};
 ghost use Rattle.flat_state.specs.Room.{HasRoom};
-ghost use Rattle.plain_machine.specs.Plain.{CanApply};
+ghost use Rattle.lane_eval.specs.Plain.{CanApply};
 
-use crate::edge::entry_place;
-use crate::program::Program;
 use change_set::{Change, Control};
 use flat_state::{Flat, first_place, function, result_register};
+use lane_eval::{Program, entry_place};
 
 /// Makes a change in a state that has the room for it. It takes no memory. It costs the change, and
 /// where a function is entered the function's registers.

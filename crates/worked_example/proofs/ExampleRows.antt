@@ -8,7 +8,7 @@ use Rattle.traces.specs.Trace.{Trial, trace, changes_from}
 use Rattle.machine_form.specs.declared.change.Change.{Change}
 use Rattle.machine_form.specs.State.{State}
 use Rattle.machine_form.specs.Machine.{case_trial, outcome_of}
-use Rattle.plain_machine.specs.Ports.{no_answers}
+use Rattle.lane_eval.specs.Ports.{no_answers}
 use Rattle.worked_example.specs.Example.{first_instr, example}
 use Rattle.worked_example.specs.Codes.{case_of}
 

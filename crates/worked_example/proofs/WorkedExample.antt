@@ -12,7 +12,7 @@ use Rattle.traces.specs.Work.{steps, tries, alone, executions, splits}
 use Rattle.machine_form.specs.declared.change.Change.{Change}
 use Rattle.machine_form.specs.State.{State}
 use Rattle.machine_form.specs.Machine.{case_trial}
-use Rattle.plain_machine.specs.Ports.{no_answers}
+use Rattle.lane_eval.specs.Ports.{no_answers}
 use Rattle.worked_example.specs.Example.{first_instr, example}
 use Rattle.worked_example.specs.Codes.{case_of}
 

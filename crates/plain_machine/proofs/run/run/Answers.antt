@@ -7,9 +7,9 @@ use Rattle.machine_form.specs.State.{State}
 use Rattle.machine_form.specs.After.{after_change}
 use Rattle.machine_form.specs.Machine.{next_by, case_trial}
 use Rattle.ports.specs.Asks.{answers_in}
-use Rattle.plain_machine.specs.Plain.{CanApply}
-use Rattle.plain_machine.specs.Running.{IsRunning}
-use Rattle.plain_machine.proofs.Steps.{variant_applies, variant_runs}
+use Rattle.lane_eval.specs.Plain.{CanApply}
+use Rattle.lane_eval.specs.Running.{IsRunning}
+use Rattle.lane_eval.proofs.Steps.{variant_applies, variant_runs}
 use Rattle.machine_form.proofs.LightChanges.{toll_small}
 use Rattle.plain_machine.proofs.Turns.{state_over, length_over, tolls_over, state_spent, length_spent, tolls_spent, state_more, length_more, tolls_more, toll_left}
 use Rattle.plain_machine.proofs.run.run.Goals as goal

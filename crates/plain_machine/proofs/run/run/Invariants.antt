@@ -2,7 +2,7 @@ use Rattle.std.proofs.Common.{◌≡◌, ℕ, ◌+◌, ◌-◌, ◌≤◌, lengt
 use Rattle.traces.specs.Trace.{changes_from, state_after}
 use Rattle.machine_form.specs.Machine.{case_trial}
 use Rattle.ports.specs.Asks.{answers_in, asked_in}
-use Rattle.plain_machine.specs.Running.{IsRunning}
+use Rattle.lane_eval.specs.Running.{IsRunning}
 use Rattle.plain_machine.specs.Tolls.{tolls_from}
 use Rattle.plain_machine.proofs.run.run.Given as goal
 

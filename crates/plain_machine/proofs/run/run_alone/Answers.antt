@@ -5,8 +5,8 @@ use Rattle.machine_form.specs.declared.change.Change.{Change}
 use Rattle.machine_form.specs.State.{State}
 use Rattle.machine_form.specs.Machine.{case_trial}
 use Rattle.ports.specs.Asks.{answers_in}
-use Rattle.plain_machine.specs.Running.{IsRunning}
-use Rattle.plain_machine.proofs.Steps.{start_running}
+use Rattle.lane_eval.specs.Running.{IsRunning}
+use Rattle.lane_eval.proofs.Steps.{start_running}
 use Rattle.plain_machine.proofs.Turns.{run_asks, run_asks_at_most}
 use Rattle.plain_machine.proofs.run.run_alone.Goals as goal
 

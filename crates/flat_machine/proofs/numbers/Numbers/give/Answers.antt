@@ -1,8 +1,8 @@
-use Rattle.exec_machine.proofs.Numbers.{distinct_push, below_push}
+use Rattle.std.proofs.Common.{arith}
+use Rattle.flat_machine.proofs.Taken.{push_taken}
 use Rattle.flat_machine.proofs.numbers.Numbers.give.Goals as goal
 
-pub invariant_of-self-2 : goal.invariant_of-self-2
-invariant_of-self-2 c = record {
-  below = rw c.in_ok-push.ensures.items (below_push _ _ c.args.self.now.below);
-  distinct = rw c.in_ok-push.ensures.items (distinct_push _ _ c.args.self.now.below c.args.self.now.distinct);
-}
+pub returns-clause-out : goal.returns-clause-out
+returns-clause-out c =
+    rw c.in_ok-push.ensures.items
+    (push_taken c.args.self.now.marks.items c.len-number.result (omega (arith, c.len-number.ensures, c.args.self.now.marks.ok.0)))

@@ -3,9 +3,9 @@ use Rattle.code_form.specs.declared.code.Code.{Code}
 use Rattle.machine_form.specs.declared.change.Change.{Change}
 use Rattle.machine_form.specs.After.{after_change}
 use Rattle.ports.specs.Asks.{answers_in}
-use Rattle.plain_machine.specs.Plain.{CanApply}
-use Rattle.plain_machine.specs.Running.{IsRunning}
-use Rattle.plain_machine.proofs.Steps.{variant_applies, variant_runs}
+use Rattle.lane_eval.specs.Plain.{CanApply}
+use Rattle.lane_eval.specs.Running.{IsRunning}
+use Rattle.lane_eval.proofs.Steps.{variant_applies, variant_runs}
 use Rattle.flat_machine.proofs.turns.FlatOverMachine.apply.Goals as goal
 
 pub apply-requires-clause-can : goal.apply-requires-clause-can

@@ -2,7 +2,7 @@ use Rattle.std.proofs.Common.{◌≤◌, sym, subst}
 use Rattle.am_base.specs.declared.limits.TheConstants.{MEMORY_BYTES}
 use Rattle.machine_form.specs.declared.change.Change.{Change}
 use Rattle.ports.specs.Asks.{answers_in}
-use Rattle.plain_machine.proofs.Steps.{variant_runs}
+use Rattle.lane_eval.proofs.Steps.{variant_runs}
 use Rattle.flat_machine.proofs.turns.FlatOverMachine.ready.Goals as goal
 
 pub ready-requires : goal.ready-requires

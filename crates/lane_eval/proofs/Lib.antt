@@ -1,0 +1,9 @@
+pub mod Steps
+pub mod Numbers
+pub mod Wrapped
+pub mod StoreSteps
+pub mod FoundSpots
+pub mod WriteSteps
+pub mod EnterSteps
+pub mod Asked
+pub mod TollSums

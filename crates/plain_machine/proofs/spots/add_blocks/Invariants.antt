@@ -1,6 +1,0 @@
-use Rattle.std.proofs.Common.{◌≡◌, ◌++◌, drop}
-use Rattle.plain_machine.specs.Spots.{spots_of_blocks}
-use Rattle.plain_machine.proofs.spots.add_blocks.Given as goal
-
-abbrev pub invariant-loop-block : goal.invariant-loop-block
-invariant-loop-block l = l.spots.items ++ spots_of_blocks l.function l.block (drop l.block l.blocks) ≡ l.initial.spots.items ++ spots_of_blocks l.function 0 l.blocks
