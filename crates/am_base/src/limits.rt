@@ -37,6 +37,12 @@ pub const MAX_MUTANTS: u32 = 65_536;
 /// How many mutants a list may name: all but mutant 0.
 pub const MAX_LISTED_MUTANTS: u32 = 65_535;
 
+/// How many replacements a mutant may have, each at another place.
+pub const MAX_REPLACEMENTS: usize = 4;
+
+/// How many records a list of mutants may have: `MAX_REPLACEMENTS` for each of its mutants.
+pub const MAX_LISTED_RECORDS: u32 = 262_140;
+
 /// How many tests a suite may have.
 pub const MAX_TESTS: u32 = 1_024;
 

@@ -1,5 +1,5 @@
 -- What is read at a place: an instruction of the code, the replacements, one of them by its number.
-use Rattle.std.proofs.Common.{◌≡◌, ◌≢◌, ℕ, zero, suc, ◌-◌, ◌<◌, ◌≤◌, List, length, get_or, Option, refl, sym, ap, ◌∙◌, arith, slice_get, unwrap_or}
+use Rattle.std.proofs.Common.{◌≡◌, ◌≢◌, ℕ, zero, suc, ◌-◌, ◌<◌, ◌≤◌, List, length, get_or, refl, sym, ap, ◌∙◌, arith, slice_get, unwrap_or}
 use mathlib.Core.Logic.{⊎_elim}
 use Rattle.std.proofs.lemmas.Bool.{cases_lt}
 use Rattle.std.proofs.lemmas.List.{get_or_default}
@@ -26,7 +26,7 @@ pub place_replacements : (places : List Replacements) (at v : ℕ) (s : Replacem
 place_replacements places at v s some given e = ap (λ (t : Replacements). t.instrs.keys) e
     ∙ sym (replacements-at places at s (has_place places at v some given))
 
-pub instr_by_number : (code : Code) (choices : List (Option (ℕ × ℕ))) (places : List Replacements) (at v : ℕ) (is : List Instr) (i : Instr) → v ≢ 0
+pub instr_by_number : (code : Code) (choices : List (List (ℕ × ℕ))) (places : List Replacements) (at v : ℕ) (is : List Instr) (i : Instr) → v ≢ 0
     → is ≡ replacements_in places at → v ≤ length is
     → i ≡ get_or is (v - 1) i → i ≡ instr_of code (table_of choices places) at v
 instr_by_number code choices places at zero is i some e l g = absurd (some refl)

@@ -1,5 +1,5 @@
 -- How a table of replacements is kept: for each place its replacements and the mutants that have one.
-use Rattle.std.specs.Prelude.{◌≡◌, ◌≢◌, ◌⊎◌, ◌↔◌, ℕ, ◌<◌, ◌≤◌, List, [], ◌∷◌, length, map, Option, None, slice_get, slice_index_or, unwrap_or, Contains}
+use Rattle.std.specs.Prelude.{◌≡◌, ◌≢◌, ◌⊎◌, ◌↔◌, ℕ, ◌<◌, ◌≤◌, List, [], ◌∷◌, length, map, slice_get, slice_index_or, unwrap_or, Contains}
 use Rattle.am_base.specs.declared.limits.TheConstants.{MAX_MUTANTS}
 use Rattle.code_form.specs.declared.instr.Instr.{Instr}
 use Rattle.code_form.specs.declared.replacements.Replacements.{Replacements}
@@ -27,14 +27,14 @@ abbrev pub mutants_in : List Replacements → ℕ → List ℕ
 mutants_in places at = slice_index_or (map (λ (s : Replacements). s.mutants.items) places) at []
 
 -- what contracts see of the choices of the mutants and the places
-abbrev pub table_of : List (Option (ℕ × ℕ)) → List Replacements → Table
+abbrev pub table_of : List (List (ℕ × ℕ)) → List Replacements → Table
 table_of choices places = record { chosen = choices; mentioned = mentioned_in places }
 
 -- the places hold what the choices of the mutants say
-pub record IsFiled (choices : List (Option (ℕ × ℕ))) (places : List Replacements) : Type 0 where
+pub record IsFiled (choices : List (List (ℕ × ℕ))) (places : List Replacements) : Type 0 where
   pub some : 1 ≤ length choices
   pub few : length choices ≤ MAX_MUTANTS
-  pub unchanged : chosen_by (table_of choices places) 0 ≡ None
+  pub unchanged : chosen_by (table_of choices places) 0 ≡ []
   pub numbered : (at m : ℕ) → variant_of (table_of choices places) m at ≤ length (replacements_in places at)
   pub different : (at : ℕ) → AreDifferent (replacements_in places at)
   pub mentioned_by_one : (at : ℕ) → length (replacements_in places at) ≤ length (mutants_in places at)

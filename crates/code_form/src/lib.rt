@@ -3,6 +3,7 @@
 #![tactic(auto)]
 
 mod case;
+mod choices;
 mod code;
 mod instr;
 mod replacements;

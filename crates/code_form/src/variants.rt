@@ -1,10 +1,12 @@
 //! The table of the replacements of all mutants.
 
-ghost use Rattle.std.specs.Prelude.{◌≡◌, ◌≢◌, ℕ, ◌<◌, ◌≤◌, [], length, slice_get, unwrap_or, IfOk, OnOk, OnErr, Contains, ◌↔◌};
-ghost use Rattle.code_form.specs.Variant.{mutants_of, chosen_by, number_at, variant_of, replacements_at, instr_of, Adds, AreDifferent, IsRising};
+ghost use Rattle.std.specs.Prelude.{◌≡◌, ◌≢◌, ℕ, ◌<◌, ◌≤◌, false, [], ◌∷◌, ◌++◌, length, IfOk, OnOk, OnErr, Contains, ◌↔◌};
+ghost use Rattle.am_base.specs.declared.limits.TheConstants.{MAX_REPLACEMENTS};
+ghost use Rattle.code_form.specs.Variant.{mutants_of, chosen_by, places_by, has_place, variant_of, replacements_at, instr_of, Adds, AreDifferent, IsRising};
 ghost use Rattle.code_form.specs.Fit.{FitsPlace, FitsTable};
 ghost use Rattle.code_form.specs.Replacements.{mutants_in};
 
+use crate::choices::{Choices, choice_of, nothing_chosen, number_in};
 use crate::code::{Code, Place};
 use crate::instr::Instr;
 use crate::replacements::{Replacements, add_at};
@@ -13,11 +15,11 @@ use std::alloc::Global;
 use std::marker::Model;
 
 /// The replacements of the mutants: each mutant but mutant 0, the unchanged program, has at most
-/// one, at one place. Contracts see a `Table`.
+/// `MAX_REPLACEMENTS`, each at another place. Contracts see a `Table`.
 #[derive(Drop)]
 pub struct Variants {
-    /// For each mutant the place of its replacement and its number there.
-    chosen: Vec<Option<(u32, u32)>>,
+    /// For each mutant its replacements: the place of each and its number there.
+    chosen: Vec<Choices>,
     /// The replacements of each place up to the last one that was mentioned.
     places: Vec<Replacements>,
 }
@@ -41,11 +43,11 @@ impl Variants {
         requires some { 1 ≤ mutants }
         requires few { mutants ≤ MAX_MUTANTS }
         ensures mutants { IfOk result (λ table. mutants_of table ≡ mutants) }
-        ensures nothing_chosen { IfOk result (λ table. (m : ℕ) → chosen_by table m ≡ None) }
+        ensures nothing_chosen { IfOk result (λ table. (m : ℕ) → chosen_by table m ≡ []) }
         ensures nothing_mentioned { IfOk result (λ table. (at : ℕ) → replacements_at table at ≡ []) }
     {
         Ok(Variants {
-            chosen: vec![in alloc; None; mutants as usize]?,
+            chosen: nothing_chosen(alloc, mutants)?,
             places: Vec::new(alloc),
         })
     }
@@ -55,14 +57,14 @@ impl Variants {
         ensures mutants { result ≡ mutants_of self.now }
         ensures some { 1 ≤ result }
         ensures few { result ≤ MAX_MUTANTS }
-        ensures unchanged { chosen_by self.now 0 ≡ None }
+        ensures unchanged { chosen_by self.now 0 ≡ [] }
         ensures given { (m at : ℕ) → variant_of self.now m at ≤ length (replacements_at self.now at) }
     {
         self.chosen.len() as u32
     }
 
     /// Returns the number of the replacement that mutant `m` has at a place: 0 if it has none there,
-    /// and 0 if its replacement equals the original. Equal replacements of one place have one
+    /// and 0 if it equals the original. Equal replacements of one place have one
     /// number, and numbers are given from 1 in order of first mention. O(1).
     pub fn variant(&self, m: u32, place: Place) -> u32
         ensures number { result ≡ variant_of self.now m place.0 }
@@ -72,8 +74,8 @@ impl Variants {
         number_in(choice_of(&self.chosen, m), place.0)
     }
 
-    /// Adds a replacement, at a place of the code, of a mutant from 1 that has none yet. It gets
-    /// number 0 if it equals the code's instruction, the number of an equal replacement of the
+    /// Adds a replacement, at a place of the code, of a mutant from 1 that has none there yet, and
+    /// fewer than `MAX_REPLACEMENTS`. It gets number 0 if it equals the code's instruction, the number of an equal replacement of the
     /// place if there is one, and else the next number. O(1) amortized but for the hashing, where
     /// mutants come in rising order. After an error the table is as it was.
     pub fn add(
@@ -86,10 +88,12 @@ impl Variants {
     ) -> Result<(), OutOfMemory>
         requires some { 1 ≤ m }
         requires defined { m < mutants_of self.old }
-        requires unchosen { chosen_by self.old m ≡ None }
+        requires free { has_place (places_by self.old m) place.0 ≡ false }
+        requires few { length (places_by self.old m) < MAX_REPLACEMENTS }
         requires within { place.0 < length code.now.instrs }
         ensures added { OnOk result (Adds code.now self.old self.new m place.0 with) }
         ensures mutants { mutants_of self.new ≡ mutants_of self.old }
+        ensures places { OnOk result (places_by self.new m ≡ places_by self.old m ++ place.0 ∷ []) }
         ensures others { (n : ℕ) → n ≢ m → chosen_by self.new n ≡ chosen_by self.old n }
         ensures fits { FitsTable code.now self.old → FitsPlace code.now place.0 with → FitsTable code.now self.new }
         ensures err { OnErr result (self.new ≡ self.old) }
@@ -97,7 +101,8 @@ impl Variants {
         let at = place.0 as usize;
         let original = &code.instrs.as_slice()[at];
         let number = add_at(alloc, &mut self.places, at, original, m, with)?;
-        self.chosen[m as usize] = Some((place.0, number));
+        let choices = &mut self.chosen[m as usize];
+        choices.push(place.0, number);
         Ok(())
     }
 
@@ -133,26 +138,6 @@ fn mutants_of_place(places: &[Replacements], at: usize) -> &[u32]
     }
 }
 
-/// The choice of a mutant: the place and the number of its replacement.
-fn choice_of(chosen: &[Option<(u32, u32)>], m: u32) -> Option<(u32, u32)>
-    ensures { result ≡ unwrap_or (slice_get chosen.now m) None }
-{
-    match chosen.get(m as usize) {
-        Some(choice) => *choice,
-        None => None,
-    }
-}
-
-/// The number that a choice gives at a place.
-fn number_in(choice: Option<(u32, u32)>, at: u32) -> u32
-    ensures { result ≡ number_at choice at }
-{
-    match choice {
-        Some((chosen, number)) if chosen == at => number,
-        _ => 0,
-    }
-}
-
 #[cfg(test)]
 mod tests {
     use super::*;
@@ -185,7 +170,7 @@ mod tests {
         })
     }
 
-    /// A table of seven mutants with five replacements.
+    /// A table of seven mutants, one of which has three replacements.
     fn filled(alloc: Global, code: &Code) -> Result<Variants, OutOfMemory>
         requires { length code.now.instrs ≡ 3 }
     {
@@ -195,6 +180,8 @@ mod tests {
         table.add(alloc, code, 4, Place(0), freeze(8))?;
         table.add(alloc, code, 1, Place(0), freeze(0))?;
         table.add(alloc, code, 3, Place(1), freeze(9))?;
+        table.add(alloc, code, 5, Place(1), freeze(9))?;
+        table.add(alloc, code, 5, Place(2), freeze(8))?;
         Ok(table)
     }
 
@@ -206,8 +193,9 @@ mod tests {
         let rows = [
             // Mutant 5 mentions its replacement first, mutant 4 has the same, and that of mutant 1 is the original.
             (0, [0, 0, 2, 0, 1, 1, 0]),
-            (1, [0, 0, 0, 1, 0, 0, 0]),
-            (2, [0, 0, 0, 0, 0, 0, 0]),
+            // Mutant 5 has that of mutant 3 here, and at the next place one that equals its first.
+            (1, [0, 0, 0, 1, 0, 1, 0]),
+            (2, [0, 0, 0, 0, 0, 1, 0]),
             (9, [0, 0, 0, 0, 0, 0, 0]),
         ];
         for (place, numbers) in rows {
@@ -220,8 +208,8 @@ mod tests {
             }
         }
         assert_eq!(rt; table.mutants_at(Place(0)), [2, 4, 5].as_slice());
-        assert_eq!(rt; table.mutants_at(Place(1)), [3].as_slice());
-        assert!(rt; table.mutants_at(Place(2)).is_empty());
+        assert_eq!(rt; table.mutants_at(Place(1)), [3, 5].as_slice());
+        assert_eq!(rt; table.mutants_at(Place(2)), [5].as_slice());
         assert!(rt; table.mutants_at(Place(9)).is_empty());
         Ok(())
     }

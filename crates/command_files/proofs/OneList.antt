@@ -1,5 +1,5 @@
 -- A text is a list of mutants, or refused as one, in one way.
-use Rattle.std.proofs.Common.{◌≡◌, ℕ, ◌+◌, Bool, true, false, List, [], ◌∷◌, ◌++◌, length, Option, Some, None, Result, Ok, Err, ap, refl, subst, sym, ◌∙◌, unwrap_or}
+use Rattle.std.proofs.Common.{◌≡◌, ℕ, ◌+◌, List, [], ◌∷◌, ◌++◌, length, Option, Some, None, Result, Ok, Err, ap, refl, subst, sym, ◌∙◌, unwrap_or}
 use Rattle.code_form.specs.declared.code.Code.{Code}
 use Rattle.code_form.specs.declared.instr.Instr.{Instr}
 use Rattle.code_form.specs.declared.sign.PortSign.{PortSign}
@@ -14,10 +14,11 @@ use Rattle.ir_grammar.specs.Lexeme.{lexemes}
 use Rattle.ir_grammar.proofs.ModuleLemmas.{item-one}
 use Rattle.ir_reader.specs.Answers.{IsWholeInstruction}
 use Rattle.ir_rules.specs.Replacements.{replacement_by}
-use Rattle.list_records.specs.Records.{Fields, field_of, rows_of}
+use Rattle.list_records.specs.Records.{Fields, rows_of}
 use Rattle.mutant_records.specs.Faults.{first_fault}
-use Rattle.mutant_records.specs.Lists.{Reading, is_header, number_called, place_called, place_faults, made_of, GivesAt, GivesUnless, RecordGives, GoesOn, RecordsGive, Behind, ListGives}
+use Rattle.mutant_records.specs.Lists.{Reading, form_of, mutant_named, number_called, place_called, text_called, place_faults, made_of, GivesUnless, RecordGives, GoesOn, RecordsGive, Behind, ListGives}
 use Rattle.mutant_records.specs.declared.error.MutantError.{MutantError}
+use Rattle.mutant_records.specs.declared.list.ListForm.{ListForm}
 use Rattle.mutant_records.specs.declared.list.Made.{Made}
 use Rattle.mutant_records.specs.declared.list.Replacement.{Replacement}
 use Rattle.mutant_records.specs.declared.list.Replacement.TheVariants.{NoInstruction, Misfit, Fits}
@@ -34,17 +35,17 @@ abbrev pub IsOneReading : Reading → Type 0
 IsOneReading Is = (place : ℕ) (text : Text) (a b : Replacement) → Is place text a → Is place text b → a ≡ b
 
 module _ (code : Code) (Is : Reading) (one : IsOneReading Is) where
-  unless-one : (fault : Option MutantError) (function place number : ℕ) (text : Text) (a b : Result Made MutantError)
-      → GivesUnless fault Is function place number text a → GivesUnless fault Is function place number text b → a ≡ b
-  unless-one None function place number text a b h k =
-      h.2 ∙ ap (made_of function place number) (one place text h.0 k.0 h.1 k.1) ∙ sym k.2
-  unless-one (Some error) function place number text a b h k = h ∙ sym k
+  unless-one : (fault : Option MutantError) (mutant function place number : ℕ) (text : Text) (a b : Result Made MutantError)
+      → GivesUnless fault Is mutant function place number text a → GivesUnless fault Is mutant function place number text b → a ≡ b
+  unless-one None mutant function place number text a b h k =
+      h.2 ∙ ap (made_of mutant function place number) (one place text h.0 k.0 h.1 k.1) ∙ sym k.2
+  unless-one (Some error) mutant function place number text a b h k = h ∙ sym k
 
-  record-one : (number : ℕ) (fields : Fields) (a b : Result Made MutantError) → RecordGives code Is number fields a → RecordGives code Is number fields b
-      → a ≡ b
-  record-one number fields a b h k =
-      unless-one (first_fault (place_faults code number fields)) (number_called code fields) (unwrap_or (place_called code fields) 0) number
-      (field_of fields 2) a b h k
+  record-one : (form : ListForm) (all : List Made) (number : ℕ) (fields : Fields) (a b : Result Made MutantError)
+      → RecordGives code Is form all number fields a → RecordGives code Is form all number fields b → a ≡ b
+  record-one form all number fields a b h k =
+      unless-one (first_fault (place_faults code form all number fields)) (mutant_named form all number fields) (number_called code form fields)
+      (unwrap_or (place_called code form fields) 0) number (text_called form fields) a b h k
 
   goes-one : (here : Result Made MutantError) (More : Made → Result (List Made) MutantError → Type 0)
       → ((made : Made) (a b : Result (List Made) MutantError) → More made a → More made b → a ≡ b) → (a b : Result (List Made) MutantError)
@@ -52,22 +53,22 @@ module _ (code : Code) (Is : Reading) (one : IsOneReading Is) where
   goes-one (Err error) More more a b h k = h ∙ sym k
   goes-one (Ok made) More more a b h k = more made a b h k
 
-  records-one : (records : List Fields) (all : List Made) (a b : Result (List Made) MutantError) → RecordsGive code Is all records a
-      → RecordsGive code Is all records b → a ≡ b
-  records-one [] all a b h k = h ∙ sym k
-  records-one (fields ∷ more) all a b h k =
-      let same = record-one (length all + 1) fields h.0 k.0 h.1 k.1 in
-      let there = subst (λ here. GoesOn here (λ made. RecordsGive code Is (all ++ made ∷ []) more b) b) (sym same) k.2 in
-      goes-one h.0 (λ made. RecordsGive code Is (all ++ made ∷ []) more) (λ made. records-one more (all ++ made ∷ [])) a b h.2 there
+  records-one : (form : ListForm) (records : List Fields) (all : List Made) (a b : Result (List Made) MutantError)
+      → RecordsGive code Is form all records a → RecordsGive code Is form all records b → a ≡ b
+  records-one form [] all a b h k = h ∙ sym k
+  records-one form (fields ∷ more) all a b h k =
+      let same = record-one form all (length all + 1) fields h.0 k.0 h.1 k.1 in
+      let there = subst (λ here. GoesOn here (λ made. RecordsGive code Is form (all ++ made ∷ []) more b) b) (sym same) k.2 in
+      goes-one h.0 (λ made. RecordsGive code Is form (all ++ made ∷ []) more) (λ made. records-one form more (all ++ made ∷ [])) a b h.2 there
 
-  behind-one : (header : Bool) (records : List Fields) (a b : Result (List Made) MutantError) → Behind header code Is records a
-      → Behind header code Is records b → a ≡ b
-  behind-one true records a b h k = records-one records [] a b h k
-  behind-one false records a b h k = h ∙ sym k
+  behind-one : (form : Option ListForm) (records : List Fields) (a b : Result (List Made) MutantError) → Behind form code Is records a
+      → Behind form code Is records b → a ≡ b
+  behind-one (Some form) records a b h k = records-one form records [] a b h k
+  behind-one None records a b h k = h ∙ sym k
 
   pub list-one : (rows : List Fields) (a b : Result (List Made) MutantError) → ListGives code Is rows a → ListGives code Is rows b → a ≡ b
   list-one [] a b h k = h ∙ sym k
-  list-one (header ∷ records) a b h k = behind-one (is_header header) records a b h k
+  list-one (header ∷ records) a b h k = behind-one (form_of header) records a b h k
 
 -- ---- a text is one replacement
 

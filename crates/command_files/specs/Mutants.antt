@@ -10,7 +10,7 @@ use Rattle.mutant_list.specs.Texts.{Reads}
 use Rattle.refused_lines.specs.Refusals.{mutants_line}
 use Rattle.command_files.specs.declared.module.Loaded.{Loaded}
 
--- the text is a list of these replacements in the module, those of the mutants from 1 on
+-- the text is a list of these replacements in the module, record by record
 abbrev pub AreMutants : List PortSign → Loaded → Text → List Made → Type 0
 AreMutants signs m text all = ListGives m.code (Reads m.module.items signs) (rows_of text) (Ok all)
 

@@ -29,19 +29,19 @@ module _ (files : Files) (answers : Answers) (mutant test : ℕ) (m : Loaded) (a
   abbrev plan : Plan
   plan = alone_end answers (record { mutant = mutant; test = test }) m all suite
 
-  no_mutant : length all < mutant → mutant_numbered all mutant ≡ None
-  no_mutant h = let past : nat_le mutant (length all) ≡ false = grind (arith, nat_tests) in rw past refl
+  no_mutant : last_mutant all < mutant → mutant_numbered all mutant ≡ None
+  no_mutant h = let past : nat_le mutant (last_mutant all) ≡ false = grind (arith, nat_tests) in rw past refl
 
-  a_mutant : mutant ≤ length all → mutant_numbered all mutant ≡ Some mutant
-  a_mutant h = let within : nat_le mutant (length all) ≡ true = grind (arith, nat_tests) in rw within refl
+  a_mutant : mutant ≤ last_mutant all → mutant_numbered all mutant ≡ Some mutant
+  a_mutant h = let within : nat_le mutant (last_mutant all) ≡ true = grind (arith, nat_tests) in rw within refl
 
-  pub mutant_missing : {E : Type 0} (counts : Counts) (made : Result (List ℕ) E) → length all < mutant → IfOk made (λ l. l ≡ no_mutant_line mutant)
+  pub mutant_missing : {E : Type 0} (counts : Counts) (made : Result (List ℕ) E) → last_mutant all < mutant → IfOk made (λ l. l ≡ no_mutant_line mutant)
       → Found files (λ name. ⊥) plan counts counts (Err (refusal input.Mutants made))
   mutant_missing counts made h line =
       missing_found files (λ name. ⊥) input.Mutants (no_mutant_line mutant) ℕ (mutant_numbered all mutant) test_wanted counts counts made (no_mutant h)
       (stay counts) line
 
-  pub test_missing : {E : Type 0} (counts : Counts) (made : Result (List ℕ) E) → mutant ≤ length all → test_numbered suite.tests test ≡ None
+  pub test_missing : {E : Type 0} (counts : Counts) (made : Result (List ℕ) E) → mutant ≤ last_mutant all → test_numbered suite.tests test ≡ None
       → IfOk made (λ l. l ≡ no_test_line test) → Found files (λ name. ⊥) plan counts counts (Err (refusal input.Tests made))
   test_missing counts made h none line =
       wanted_found files (λ name. ⊥) input.Mutants (no_mutant_line mutant) ℕ (mutant_numbered all mutant) mutant test_wanted counts counts
@@ -49,7 +49,7 @@ module _ (files : Files) (answers : Answers) (mutant test : ℕ) (m : Loaded) (a
       (missing_found files (λ name. ⊥) input.Tests (no_test_line test) Test (test_numbered suite.tests test)
       (λ t. Write (IsRunText m.code all answers mutant t) (IsRunRise m.code all answers mutant t)) counts counts made none (stay counts) line)
 
-  module _ (t : Test) (list : MutantList) (is_list : IsListOf m.code all list) (steps : ℕ) (old new : List ℕ) (h : mutant ≤ length all)
+  module _ (t : Test) (list : MutantList) (is_list : IsListOf m.code all list) (steps : ℕ) (old new : List ℕ) (h : mutant ≤ last_mutant all)
       (is_test : test_numbered suite.tests test ≡ Some t) where
     abbrev tolls : ℕ → ℕ
     tolls = tolls_of (trial_on m.code list.variants answers t) mutant

@@ -21,6 +21,7 @@ use Rattle.machine_form.specs.Same.{same_change}
 use Rattle.machine_form.specs.Start.{start_of}
 use Rattle.machine_form.specs.State.{State}
 use Rattle.plain_machine.specs.Tolls.{tolls_of}
+use Rattle.mutant_records.specs.Lists.{last_mutant}
 use Rattle.mutant_records.specs.Tables.{IsEmptyTable, ListFrom, IsListOf, row_of}
 use Rattle.mutant_records.specs.declared.list.Made.{Made}
 use Rattle.mutant_records.specs.declared.list.MutantList.{MutantList}
@@ -40,14 +41,14 @@ pub record Alike (t u : Table) : Type 0 where
 abbrev IsNeat : Table → Type 0
 IsNeat t = (at : ℕ) → AreDifferent (replacements_at t at)
 
-nothing-one : {A : Type 0} (xs ys : List (Option A)) → length xs ≡ length ys → ((m : ℕ) → unwrap_or (slice_get xs m) None ≡ None)
-    → ((m : ℕ) → unwrap_or (slice_get ys m) None ≡ None) → xs ≡ ys
+nothing-one : {A : Type 0} (xs ys : List (List A)) → length xs ≡ length ys → ((m : ℕ) → unwrap_or (slice_get xs m) [] ≡ [])
+    → ((m : ℕ) → unwrap_or (slice_get ys m) [] ≡ []) → xs ≡ ys
 nothing-one [] [] l h k = refl
 nothing-one [] (y ∷ ys) l h k = absurd (omega (arith, l))
 nothing-one (x ∷ xs) [] l h k = absurd (omega (arith, l))
 nothing-one (x ∷ xs) (y ∷ ys) l h k =
-    let first : x ≡ None = h 0 in
-    let second : y ≡ None = k 0 in
+    let first : x ≡ [] = h 0 in
+    let second : y ≡ [] = k 0 in
     let rest = nothing-one xs ys (omega (arith, l)) (λ m. h (suc m)) (λ m. k (suc m)) in
     ap (λ z. z ∷ xs) (first ∙ sym second) ∙ ap (λ zs. y ∷ zs) rest
 
@@ -83,7 +84,8 @@ module _ (code : Code) where
       let there = subst (λ is. IsNumbered (instr_at code at) is with b.number (replacements_at other at)) (sym (alike.places at)) b.numbered in
       let one = numbered-one (neat at) a.numbered there in
       record {
-        chosen = a.chosen ∙ ap (λ c. slice_set c m (Some (at, a.number))) alike.chosen ∙ ap (λ n. slice_set u.chosen m (Some (at, n))) one.0 ∙ sym b.chosen;
+        chosen = a.chosen ∙ ap (λ (c : List (List (ℕ × ℕ))). slice_set c m (unwrap_or (slice_get c m) [] ++ (at, a.number) ∷ [])) alike.chosen
+            ∙ ap (λ (n : ℕ). slice_set u.chosen m (unwrap_or (slice_get u.chosen m) [] ++ (at, n) ∷ [])) one.0 ∙ sym b.chosen;
         places = λ q. ⊎_elim (λ e. subst (λ k. replacements_at next k ≡ replacements_at other k) (sym e) one.1)
             (λ ne. a.others q ne ∙ alike.places q ∙ sym (b.others q ne)) (cases_eq q at);
       }
@@ -93,18 +95,18 @@ module _ (code : Code) where
       ⊎_elim (λ e. subst (λ k. AreDifferent (replacements_at next k)) (sym e) (different_numbered a.numbered (neat at)))
       (λ ne. subst AreDifferent (sym (a.others q ne)) (neat q)) (cases_eq q at)
 
-  from-one : (all : List Made) (m : ℕ) (t u last other : Table) (rows more ends others : List MutantRow) → Alike t u → IsNeat t
-      → ListFrom code m t rows all last ends → ListFrom code m u more all other others → Alike last other
-  from-one [] m t u last other rows more ends others alike neat h k =
+  from-one : (all : List Made) (t u last other : Table) (rows more ends others : List MutantRow) → Alike t u → IsNeat t
+      → ListFrom code t rows all last ends → ListFrom code u more all other others → Alike last other
+  from-one [] t u last other rows more ends others alike neat h k =
       subst (λ v. Alike v other) (sym h.0) (subst (λ v. Alike t v) (sym k.0) alike)
-  from-one (made ∷ all) m t u last other rows more ends others alike neat h k =
-      from-one all (m + 1) h.0 k.0 last other (rows ++ row_of h.0 m made ∷ []) (more ++ row_of k.0 m made ∷ []) ends others
-      (adds-one t u h.0 k.0 m made.place.0 made.with alike neat h.1 k.1) (adds-neat t h.0 m made.place.0 made.with neat h.1) h.2 k.2
+  from-one (made ∷ all) t u last other rows more ends others alike neat h k =
+      from-one all h.0 k.0 last other (rows ++ row_of h.0 made ∷ []) (more ++ row_of k.0 made ∷ []) ends others
+      (adds-one t u h.0 k.0 made.mutant made.place.0 made.with alike neat h.1 k.1) (adds-neat t h.0 made.mutant made.place.0 made.with neat h.1) h.2 k.2
 
   pub lists-alike : (all : List Made) (list other : MutantList) → IsListOf code all list → IsListOf code all other → Alike list.variants other.variants
   lists-alike all list other h k =
-      from-one all 1 h.start k.start list.variants other.variants [] [] list.rows other.rows
-      (empty-alike (length all + 1) h.start k.start h.empty k.empty) (empty-neat (length all + 1) h.start h.empty) h.added k.added
+      from-one all h.start k.start list.variants other.variants [] [] list.rows other.rows
+      (empty-alike (last_mutant all + 1) h.start k.start h.empty k.empty) (empty-neat (last_mutant all + 1) h.start h.empty) h.added k.added
 
 -- ---- runs
 
@@ -132,10 +134,10 @@ module _ (code : Code) (answers : Answers) where
       let instrs : instr_of code t ≡ instr_of code u = fun_ext (λ at. fun_ext (λ n. instr-one t u h at n)) in
       ap (λ k. machine_by k (instr_of code t)) knows ∙ ap (machine_by (is_known u)) instrs
 
-  abbrev trial_by : Test → Meanings State Change → List (Option (ℕ × ℕ)) → Trial State Change
+  abbrev trial_by : Test → Meanings State Change → List (List (ℕ × ℕ)) → Trial State Change
   trial_by test machine chosen = record {
     meanings = machine;
-    variant = λ m at. number_at (unwrap_or (slice_get chosen m) None) at;
+    variant = λ m at. number_at (unwrap_or (slice_get chosen m) []) at;
     start = start_of code test.case;
     budget = test.case.budget;
     mutants = length chosen;

@@ -8,6 +8,7 @@ use Rattle.machine_form.specs.Calls.{Answers}
 use Rattle.machine_form.specs.Machine.{outcome_of}
 use Rattle.traces.specs.Trace.{trace}
 use Rattle.plain_machine.specs.Tolls.{tolls_of}
+use Rattle.mutant_records.specs.Lists.{last_mutant}
 use Rattle.mutant_records.specs.Tables.{IsListOf}
 use Rattle.mutant_records.specs.declared.list.Made.{Made}
 use Rattle.mutant_records.specs.declared.list.MutantList.{MutantList}
@@ -42,7 +43,7 @@ IsRunRise code all answers m test counts =
 
 -- the mutant with a number, where there are these replacements
 abbrev pub mutant_numbered : List Made → ℕ → Option ℕ
-mutant_numbered all m = if nat_le m (length all) then Some m else None
+mutant_numbered all m = if nat_le m (last_mutant all) then Some m else None
 
 -- the test with a number, from 1
 abbrev pub test_numbered : List Test → ℕ → Option Test

@@ -22,9 +22,11 @@ use mutant_records::{MutantError, MutantList, read_mutants_over};
 use std::alloc::Global;
 
 /// Reads a list of mutants for the code of a module without a fault, over which `checker` decides.
-/// The text is read as `csv` reads it with `;` between fields: its first record is
-/// `function;instruction;replacement`, and each further one is a mutant, from 1 on. The first
-/// record with a fault is refused, with its first fault in the order of `MutantError`.
+/// The text is read as `csv` reads it with `;` between fields. Where its first record is
+/// `function;instruction;replacement`, each further one is a mutant, from 1 on; where it is
+/// `mutant;function;instruction;replacement`, each further one adds a replacement to the mutant of
+/// its first field. The first record with a fault is refused, with its first fault in the order of
+/// `MutantError`.
 /// `OutOfMemory` may come at any text. O(n) in the bytes of the text, and in the instructions that
 /// it names.
 pub fn read_mutants_by(

@@ -24,6 +24,7 @@ use Rattle.ir_sound.proofs.Whole.{items-whole}
 use Rattle.ir_sound.proofs.Replacements.{replacement-fits}
 use Rattle.mutant_records.specs.Lists.{RecordGives, RecordsGive, ListGives}
 use Rattle.mutant_records.specs.Tables.{AllFit, Answers}
+use Rattle.mutant_records.specs.declared.list.ListForm.TheVariants.{Plain}
 use Rattle.mutant_records.specs.declared.list.MutantList.{MutantList}
 use Rattle.mutant_records.specs.declared.error.MutantError.{MutantError}
 use Rattle.mutant_records.specs.declared.list.Made.{Made as Asked}
@@ -36,30 +37,34 @@ use Rattle.command_files.specs.declared.module.Loaded.{Loaded}
 use Rattle.ir_text.specs.Texts.{AreBytes, IsTextOf}
 use Rattle.ir_rules.specs.Rules.{fault}
 use Rattle.mutant_maker_laws.proofs.Numbered.{list-some}
-use Rattle.mutant_maker_laws.proofs.Records.{AllAsked, made-asked}
+use Rattle.mutant_maker_laws.proofs.Records.{AllAsked, AreNumbered, made-asked}
 
 module _ (items : List Item) (signs : List PortSign) (code : Code) where
-  record-gives : (m : Made) (r : Asked) (number : ℕ) → IsAsked items signs code m r → number ≤ MAX_LISTED_MUTANTS
-      → RecordGives code (Reads items signs) number (record_of m) (Ok r)
+  record-gives : (m : Made) (r : Asked) (done : List Asked) → IsAsked items signs code m r → r.mutant ≡ length done + 1 → length done + 1 ≤ MAX_LISTED_MUTANTS
+      → RecordGives code (Reads items signs) Plain done (length done + 1) (record_of m) (Ok r)
   unfolding field_at
-  record-gives m r number h small = rw (h.named, h.placed) (Fits r.with, h.reads, rw (le-ltb MAX_LISTED_MUTANTS number small) refl)
+  record-gives m r done h e small =
+      rw (h.named, h.placed) (Fits r.with, h.reads, rw (le-ltb MAX_LISTED_MUTANTS (length done + 1) small)
+      (ap (λ (n : ℕ). Ok (record { mutant = n; function = r.function; place = r.place; with = r.with })) e))
 
-  records-give : (ms : List Made) (rs done : List Asked) → AllZip (IsAsked items signs code) ms rs → length done + length ms ≤ MAX_LISTED_MUTANTS
-      → RecordsGive code (Reads items signs) done (map record_of ms) (Ok (done ++ rs))
-  records-give [] [] done h small = ap Ok (append-nil done)
-  records-give [] (r ∷ rs) done h small = absurd h
-  records-give (m ∷ ms) [] done h small = absurd h
-  records-give (m ∷ ms) (r ∷ rs) done (h, hs) small =
-      let more = records-give ms rs (done ++ r ∷ []) hs (omega (arith, length-append done (r ∷ []))) in (
+  records-give : (ms : List Made) (rs done : List Asked) → AllZip (IsAsked items signs code) ms rs → AreNumbered (length done + 1) rs
+      → length done + length ms ≤ MAX_LISTED_MUTANTS → RecordsGive code (Reads items signs) Plain done (map record_of ms) (Ok (done ++ rs))
+  records-give [] [] done h n small = ap Ok (append-nil done)
+  records-give [] (r ∷ rs) done h n small = absurd h
+  records-give (m ∷ ms) [] done h n small = absurd h
+  records-give (m ∷ ms) (r ∷ rs) done (h, hs) (n, ns) small =
+      let long = length-append done (r ∷ []) in
+      let next = subst (λ k. AreNumbered k rs) (ap (λ k. k + 1) (sym long)) ns in
+      let more = records-give ms rs (done ++ r ∷ []) hs next (omega (arith, long)) in (
         Ok r,
-        record-gives m r (length done + 1) h (omega arith),
-        subst (λ all. RecordsGive code (Reads items signs) (done ++ r ∷ []) (map record_of ms) (Ok all)) (append_assoc done (r ∷ []) rs) more,
+        record-gives m r done h n (omega arith),
+        subst (λ all. RecordsGive code (Reads items signs) Plain (done ++ r ∷ []) (map record_of ms) (Ok all)) (append_assoc done (r ∷ []) rs) more,
       )
 
-  pub list-gives : (ms : List Made) (rs : List Asked) → AllZip (IsAsked items signs code) ms rs → length ms ≤ MAX_LISTED_MUTANTS
+  pub list-gives : (ms : List Made) (rs : List Asked) → AllZip (IsAsked items signs code) ms rs → AreNumbered 1 rs → length ms ≤ MAX_LISTED_MUTANTS
       → ListGives code (Reads items signs) (records ms) (Ok rs)
   unfolding field_at
-  list-gives ms rs h small = records-give ms rs [] h (omega arith)
+  list-gives ms rs h n small = records-give ms rs [] h n (omega arith)
 
 record IsKept (text : Text) (m : Module) (signs : List PortSign) : Type 0 where
   bytes : AreBytes text
@@ -93,7 +98,7 @@ module _ (text : Text) (m : Module) (signs : List PortSign) (k : IsKept text m s
   fits-each (x ∷ ms) (r ∷ rs) (g, gs) = (replacement-fits m signs r.place.0 g.reads.0 r.with whole k.faultless g.reads.2, fits-each ms rs gs)
 
   gives : Gives (Ok all.asked)
-  gives = list-gives m.items signs code mades all.asked all.are k.few
+  gives = list-gives m.items signs code mades all.asked all.are all.numbers k.few
 
   accepted-there : (asked : List Asked) × Gives (Ok asked)
   accepted-there = (all.asked, gives)

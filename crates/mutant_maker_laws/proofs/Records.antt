@@ -48,6 +48,24 @@ use Rattle.mutant_maker_laws.proofs.Apart.{AllApart, Apart, all-apart}
 use Rattle.mutant_maker_laws.proofs.Reading.{all-read}
 use Rattle.mutant_maker_laws.proofs.Names.{named, placed, first-laid, end-laid}
 
+-- these, as those of the mutants from a number on
+numbered : ℕ → List Asked → List Asked
+numbered n [] = []
+numbered n (r ∷ rs) = record { mutant = n; function = r.function; place = r.place; with = r.with } ∷ numbered (n + 1) rs
+
+abbrev pub AreNumbered : ℕ → List Asked → Type 0
+AreNumbered n [] = Unit {0}
+AreNumbered n (r ∷ rs) = (r.mutant ≡ n) × AreNumbered (n + 1) rs
+
+are-numbered : (n : ℕ) (rs : List Asked) → AreNumbered n (numbered n rs)
+are-numbered n [] = tt
+are-numbered n (r ∷ rs) = (refl, are-numbered (n + 1) rs)
+
+numbered-apart : (n : ℕ) (q : Asked) (k : ℕ) (rs : List Asked) → Each (IsDifferent q) rs
+    → Each (IsDifferent (record { mutant = k; function = q.function; place = q.place; with = q.with })) (numbered n rs)
+numbered-apart n q k [] h = tt
+numbered-apart n q k (r ∷ rs) (h, hs) = (h, numbered-apart (n + 1) q k rs hs)
+
 module _ (items : List Item) (signs : List PortSign) (whole : AreWhole false items) (faultless : fault items signs ≡ None)
     (parts : (i : ℕ) (r : Option Name) (o : Op) → slice_get items i ≡ Some (item.Instr r o) → PartsReadBack o) where
   abbrev c : Code
@@ -96,7 +114,7 @@ module _ (items : List Item) (signs : List PortSign) (whole : AreWhole false ite
     keeps x = fault-none items signs i (item.Instr r o) x faultless there
 
     abbrev ask : Op → Asked
-    ask p = record { function = k; place = record { 0 = at }; with = op_code s addresses p }
+    ask p = record { mutant = 0; function = k; place = record { 0 = at }; with = op_code s addresses p }
 
     here : slice_get c.instrs at ≡ Some (op_code s addresses o)
     here = original-instr items signs addresses 0 items at _ place
@@ -279,8 +297,24 @@ module _ (items : List Item) (signs : List PortSign) (whole : AreWhole false ite
   all-pairs (r ∷ rs) (h, hs) zero (suc j) d low high = all-each (IsDifferent r) rs h j d (omega arith)
   all-pairs (r ∷ rs) (h, hs) (suc i) (suc j) d low high = all-pairs rs hs i j d (omega arith) (omega arith)
 
+  numbered-asked : (n : ℕ) (ms : List Made) (rs : List Asked) → AllZip (IsAsked items signs c) ms rs → AllZip (IsAsked items signs c) ms (numbered n rs)
+  numbered-asked n [] [] h = tt
+  numbered-asked n [] (r ∷ rs) h = absurd h
+  numbered-asked n (m ∷ ms) [] h = absurd h
+  numbered-asked n (m ∷ ms) (r ∷ rs) (h, hs) =
+      (record { named = h.named; placed = h.placed; reads = h.reads }, numbered-asked (n + 1) ms rs hs)
+
+  numbered-other : (n : ℕ) (rs : List Asked) → Each (IsOther c) rs → Each (IsOther c) (numbered n rs)
+  numbered-other n [] h = tt
+  numbered-other n (r ∷ rs) (h, hs) = (h, numbered-other (n + 1) rs hs)
+
+  numbered-different : (n : ℕ) (rs : List Asked) → AreDifferent rs → AreDifferent (numbered n rs)
+  numbered-different n [] h = tt
+  numbered-different n (r ∷ rs) (h, hs) = (numbered-apart (n + 1) r n rs h, numbered-different (n + 1) rs hs)
+
   pub record AllAsked (mades : List Made) : Type 0 where
     pub asked : List Asked
+    pub numbers : AreNumbered 1 asked
     pub are : AllZip (IsAsked items signs c) mades asked
     pub others : Each (IsOther c) asked
     pub different : AllPairs IsDifferent asked
@@ -288,4 +322,10 @@ module _ (items : List Item) (signs : List PortSign) (whole : AreWhole false ite
   pub made-asked : AllAsked (made_from (kind_of (type_defs items)) c.instrs [] 0 0 items)
   made-asked =
       let w = walk-items false [] items 0 0 0 [] 0 (along-start items signs faultless) whole (λ j g e. ap (slice_get c.funcs) (omega arith) ∙ e) tt in
-      record { asked = w.asked; are = w.are; others = w.other; different = all-pairs w.asked w.different }
+      record {
+        asked = numbered 1 w.asked;
+        numbers = are-numbered 1 w.asked;
+        are = numbered-asked 1 _ w.asked w.are;
+        others = numbered-other 1 w.asked w.other;
+        different = all-pairs (numbered 1 w.asked) (numbered-different 1 w.asked w.different);
+      }

@@ -1,3 +1,5 @@
 pub mod Faults
 pub mod Lists
+pub mod Order
+pub mod Progress
 pub mod Tables

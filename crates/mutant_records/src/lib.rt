@@ -4,11 +4,12 @@
 
 mod error;
 mod list;
+mod progress;
 mod read;
 mod records;
 mod table;
 
 pub use error::MutantError;
-pub use list::{Made, MutantList, MutantRow, Replacement};
+pub use list::{ListForm, Made, MutantList, MutantRow, Replacement};
 pub use read::read_mutants_over;
 pub use records::Replaces;

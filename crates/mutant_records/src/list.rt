@@ -3,9 +3,21 @@
 use am_lists::Items;
 use code_form::{Instr, Place, Variants};
 
-/// One mutant of a list.
+/// The two forms of a list, told apart by its header.
+#[derive(Clone, Copy, Debug, PartialEq, Eq)]
+pub enum ListForm {
+    /// `function;instruction;replacement`: each record is a mutant, numbered by the record.
+    Plain,
+    /// `mutant;function;instruction;replacement`: each record adds a replacement to the mutant of
+    /// its first field.
+    Numbered,
+}
+
+/// One record of a list: a replacement of one mutant.
 #[derive(Clone, Copy, Debug, PartialEq, Eq)]
 pub struct MutantRow {
+    /// The number of the mutant, from 1.
+    pub mutant: u32,
     /// The number of the function.
     pub function: u32,
     /// The instruction that is replaced.
@@ -14,16 +26,17 @@ pub struct MutantRow {
     pub variant: u32,
 }
 
-/// The mutants of a file, in its order, at most `MAX_LISTED_MUTANTS`: row `m - 1` is mutant `m`.
+/// The mutants of a file, at most `MAX_LISTED_MUTANTS`, and a row for each of its records, in order.
 #[derive(Drop)]
 pub struct MutantList {
     pub variants: Variants,
     pub rows: Items<MutantRow>,
 }
 
-/// What a record asks for: an instruction in the place of another.
+/// What a record asks for: that a mutant has an instruction in the place of another.
 #[derive(Drop)]
 pub struct Made {
+    pub mutant: u32,
     pub function: u32,
     pub place: Place,
     pub with: Instr,

@@ -9,10 +9,11 @@ ghost use Rattle.mutant_records.specs.Tables.{Answers};
 ghost use Rattle.code_form.specs.declared.instr.Instr.{Instr};
 
 use crate::error::MutantError;
-use crate::list::{Made, MutantList, Replacement};
-use crate::records::{Replaces, is_header, read_record};
+use crate::list::{ListForm, Made, MutantList, Replacement};
+use crate::progress::Progress;
+use crate::records::{Replaces, form_of, read_record};
 use crate::table::list_of;
-use am_base::{MAX_FILE_BYTES, MAX_LISTED_MUTANTS, OutOfMemory};
+use am_base::{MAX_FILE_BYTES, MAX_LISTED_RECORDS, OutOfMemory};
 use am_lists::Items;
 use code_form::Code;
 use csv::{ByteRecord, Reader};
@@ -25,6 +26,7 @@ fn read_records<C: Replaces>(
     alloc: Global,
     code: &Code,
     checker: &mut C,
+    form: ListForm,
     reader: &mut Reader<&[u8]>,
     row: &mut ByteRecord,
 ) -> Result<Result<Items<Made>, MutantError>, OutOfMemory>
@@ -32,17 +34,17 @@ fn read_records<C: Replaces>(
     requires over { C.code (C.subject checker.old) ≡ code.now }
     requires short { spec.IsShort reader.old }
     ensures { (text : List ℕ) (header : Fields) (records : List Fields) → Gave text reader.old (header ∷ []) → rows_of text ≡ header ∷ records
-        → IfOk result (λ all. spec.RecordsGive code.now (C.Reads (C.subject checker.old)) [] records all) }
+        → IfOk result (λ all. spec.RecordsGive code.now (C.Reads (C.subject checker.old)) form [] records all) }
 {
     let functions = FunctionNames::new(alloc, code)?;
-    let mut all = Items::new(alloc);
-    'each: for number in 1..MAX_LISTED_MUTANTS + 2 {
+    let mut so_far = Progress::new(alloc, form);
+    'each: for number in 1..MAX_LISTED_RECORDS + 2 {
         if !next_record(reader, row)? {
-            return Ok(Ok(all));
+            return Ok(Ok(so_far.into_all()));
         }
-        match read_record(alloc, code, &functions, checker, number, row)? {
+        match read_record(alloc, code, &functions, checker, &so_far, number, row)? {
             Err(fault) => return Ok(Err(fault)),
-            Ok(made) => all.push(made)?,
+            Ok(made) => so_far.push(made)?,
         }
     }
     unreachable!()
@@ -65,10 +67,10 @@ fn read_list<C: Replaces>(
     if !next_record(&mut reader, &mut row)? {
         return Ok(Err(MutantError::Header { row: 0 }));
     }
-    if !is_header(&row) {
+    let Some(form) = form_of(&row) else {
         return Ok(Err(MutantError::Header { row: 0 }));
-    }
-    read_records(alloc, code, checker, &mut reader, &mut row)
+    };
+    read_records(alloc, code, checker, form, &mut reader, &mut row)
 }
 
 /// Reads the replacements of a list and makes their table.
@@ -91,9 +93,10 @@ fn read_whole<C: Replaces>(
     }
 }
 
-/// Reads a list of mutants for a code. The text is read as `csv` reads it with `;` between fields:
-/// its first record is `function;instruction;replacement`, and each further one is a mutant, from 1
-/// on. The first record with a fault is refused, with its first fault in the order of
+/// Reads a list of mutants for a code. The text is read as `csv` reads it with `;` between fields.
+/// Where its first record is `function;instruction;replacement`, each further one is a mutant, from
+/// 1 on; where it is `mutant;function;instruction;replacement`, each further one adds a replacement
+/// to the mutant of its first field. The first record with a fault is refused, with its first fault in the order of
 /// `MutantError`. What an instruction is, and whether it fits its place, `checker` decides.
 pub fn read_mutants_over<C: Replaces>(
     alloc: Global,

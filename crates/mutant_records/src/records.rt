@@ -7,9 +7,11 @@ ghost use Rattle.code_form.specs.Sound.{IsSound};
 ghost use Rattle.function_names.specs.Names.{function_named, number_in};
 ghost use Rattle.list_records.specs.Records.{field_of};
 ghost use Rattle.mutant_records.specs.Lists as spec;
+ghost use Rattle.mutant_records.specs.Progress.{Keeps};
 
 use crate::error::MutantError;
-use crate::list::{Made, Replacement};
+use crate::list::{ListForm, Made, Replacement};
+use crate::progress::Progress;
 use am_base::{MAX_FILE_BYTES, MAX_LISTED_MUTANTS, OutOfMemory};
 use am_lists::Bytes;
 use code_form::{Code, Func, Place};
@@ -49,14 +51,27 @@ pub trait Replaces {
         ensures kept { subject self.new ≡ subject self.old };
 }
 
-/// Whether record 0 names the fields.
-pub(crate) fn is_header(row: &ByteRecord) -> bool
-    ensures { result ≡ spec.is_header (fields_of row.now) }
+/// Whether the three fields from a number on have the names that each header has.
+fn names_fields(row: &ByteRecord, from: usize) -> bool
+    requires { from < 2 }
+    ensures { result ≡ spec.names_fields (fields_of row.now) from }
 {
-    row.len() == 3
-        && field(row, 0) == b"function".as_slice()
-        && field(row, 1) == b"instruction".as_slice()
-        && field(row, 2) == b"replacement".as_slice()
+    field(row, from) == b"function".as_slice()
+        && field(row, from + 1) == b"instruction".as_slice()
+        && field(row, from + 2) == b"replacement".as_slice()
+}
+
+/// The form of the list whose record 0 this is; `None` where it is no header.
+pub(crate) fn form_of(row: &ByteRecord) -> Option<ListForm>
+    ensures { result ≡ spec.form_of (fields_of row.now) }
+{
+    if row.len() == 3 && names_fields(row, 0) {
+        return Some(ListForm::Plain);
+    }
+    if row.len() == 4 && field(row, 0) == b"mutant".as_slice() && names_fields(row, 1) {
+        return Some(ListForm::Numbered);
+    }
+    None
 }
 
 /// The place of a function's first instruction.
@@ -95,72 +110,96 @@ fn place_named(f: &Func, text: &[u8]) -> Option<u32>
     }
 }
 
-/// What a replacement gives: it fits its place, unless there are too many, or it has a fault.
-fn made_of(function: u32, place: u32, number: u32, found: Replacement) -> Result<Made, MutantError>
-    ensures { result ≡ spec.made_of function place number found }
+/// What a record names before its replacement.
+#[derive(Clone, Copy)]
+struct Target {
+    mutant: u32,
+    function: u32,
+    place: u32,
+}
+
+/// What a replacement gives: it fits its place, unless there are too many mutants, or it has a fault.
+fn made_of(target: Target, number: u32, found: Replacement) -> Result<Made, MutantError>
+    ensures { result ≡ spec.made_of target.mutant target.function target.place number found }
 {
     match found {
         Replacement::NoInstruction => Err(MutantError::NotAnInstruction { row: number }),
         Replacement::Misfit => Err(MutantError::NotOfItsType { row: number }),
         Replacement::Fits(with) => {
-            if number > MAX_LISTED_MUTANTS {
+            if target.mutant > MAX_LISTED_MUTANTS {
                 return Err(MutantError::Limit { row: number });
             }
             Ok(Made {
-                function,
-                place: Place(place),
+                mutant: target.mutant,
+                function: target.function,
+                place: Place(target.place),
                 with,
             })
         }
     }
 }
 
-/// Reads the third field of a record whose other two name a place.
+/// Reads the replacement of a record.
 fn read_replacement<C: Replaces>(
     alloc: Global,
     checker: &mut C,
-    function: u32,
-    place: u32,
+    target: Target,
     number: u32,
-    row: &ByteRecord,
+    text: &[u8],
 ) -> Result<Result<Made, MutantError>, OutOfMemory>
-    requires within { place < length (C.code (C.subject checker.old)).instrs }
-    requires short { length (field_of (fields_of row.now) 2) ≤ MAX_FILE_BYTES }
-    ensures value { IfOk result (λ made. spec.GivesAt (C.Reads (C.subject checker.old)) function place number (field_of (fields_of row.now) 2) made) }
+    requires within { target.place < length (C.code (C.subject checker.old)).instrs }
+    requires short { length text.now ≤ MAX_FILE_BYTES }
+    ensures value { IfOk result (λ made. spec.GivesAt (C.Reads (C.subject checker.old)) target.mutant target.function target.place number text.now made) }
     ensures kept { C.subject checker.new ≡ C.subject checker.old }
 {
-    let found = checker.replacement(alloc, Place(place), field(row, 2))?;
-    Ok(made_of(function, place, number, found))
+    let found = checker.replacement(alloc, Place(target.place), text)?;
+    Ok(made_of(target, number, found))
 }
 
-/// Reads a record.
+/// Reads the record of a number behind those that gave the replacements so far.
 pub(crate) fn read_record<C: Replaces>(
     alloc: Global,
     code: &Code,
     functions: &FunctionNames,
     checker: &mut C,
+    so_far: &Progress,
     number: u32,
     row: &ByteRecord,
 ) -> Result<Result<Made, MutantError>, OutOfMemory>
     requires sound { IsSound code.now }
     requires named { (name : List ℕ) → number_in functions.now name ≡ function_named code.now name }
     requires over { C.code (C.subject checker.old) ≡ code.now }
-    requires short { length (field_of (fields_of row.now) 2) ≤ MAX_FILE_BYTES }
-    ensures value { IfOk result (λ made. spec.RecordGives code.now (C.Reads (C.subject checker.old)) number (fields_of row.now) made) }
+    requires keeps { Keeps so_far.now }
+    requires next { so_far.now.mutant ≤ number }
+    requires short { (i : ℕ) → length (field_of (fields_of row.now) i) ≤ MAX_FILE_BYTES }
+    ensures value { IfOk result (λ made.
+        spec.RecordGives code.now (C.Reads (C.subject checker.old)) so_far.now.form so_far.now.all number (fields_of row.now) made) }
     ensures kept { C.subject checker.new ≡ C.subject checker.old }
 {
-    if row.len() != 3 {
+    let from = so_far.fields_before();
+    if row.len() != from + 3 {
         return Ok(Err(MutantError::Lengths { row: number }));
     }
-    let name = Bytes::from_slice(alloc, field(row, 0))?;
+    let Some(mutant) = so_far.mutant_of(number, row) else {
+        return Ok(Err(MutantError::Numbering { row: number }));
+    };
+    let name = Bytes::from_slice(alloc, field(row, from))?;
     let Some(function) = functions.find(&name) else {
         return Ok(Err(MutantError::UnknownFunction { row: number }));
     };
     let f = function_at(code, function);
-    let Some(place) = place_named(f, field(row, 1)) else {
+    let Some(place) = place_named(f, field(row, from + 1)) else {
         return Ok(Err(MutantError::NoPlace { row: number }));
     };
-    read_replacement(alloc, checker, function, place, number, row)
+    if so_far.is_taken(mutant, place) {
+        return Ok(Err(MutantError::SamePlace { row: number }));
+    }
+    let target = Target {
+        mutant,
+        function,
+        place,
+    };
+    read_replacement(alloc, checker, target, number, field(row, from + 2))
 }
 
 /// The function with a number.

@@ -1,48 +1,64 @@
 //! The table of the replacements of a list, and its rows.
 
-ghost use Rattle.std.specs.Prelude.{◌≡◌, ◌≢◌, ℕ, ◌<◌, ◌≤◌, ◌+◌, ◌∷◌, [], ◌++◌, length, IfOk, OnOk};
+ghost use Rattle.std.specs.Prelude.{◌≡◌, ◌≢◌, ℕ, ◌<◌, ◌≤◌, ◌∷◌, [], ◌++◌, false, length, IfOk, OnOk};
+ghost use Rattle.am_base.specs.declared.limits.TheConstants.{MAX_REPLACEMENTS};
 ghost use Rattle.code_form.specs.Fit.{FitsPlace, FitsTable};
-ghost use Rattle.code_form.specs.Variant.{Adds, chosen_by, mutants_of};
+ghost use Rattle.code_form.specs.Variant.{Adds, chosen_by, has_place, mutants_of, places_by};
+ghost use Rattle.mutant_records.specs.Lists as spec;
+ghost use Rattle.mutant_records.specs.Order.{AreInOrder};
 ghost use Rattle.mutant_records.specs.Tables.{AllFit, IsListOf, row_of};
 
 use crate::list::{Made, MutantList, MutantRow};
-use am_base::{MAX_LISTED_MUTANTS, OutOfMemory};
+use am_base::OutOfMemory;
 use am_lists::Items;
 use code_form::{Code, Variants};
 use std::alloc::Global;
 
-/// Adds the replacement of mutant `m`, and its row.
+/// Adds a replacement, and its row.
 fn add_row(
     alloc: Global,
     code: &Code,
     variants: &mut Variants,
     rows: &mut Items<MutantRow>,
-    m: u32,
     made: Made,
 ) -> Result<(), OutOfMemory>
-    requires some { 1 ≤ m }
-    requires defined { m < mutants_of variants.old }
-    requires unchosen { chosen_by variants.old m ≡ None }
+    requires some { 1 ≤ made.mutant }
+    requires defined { made.mutant < mutants_of variants.old }
+    requires free { has_place (places_by variants.old made.mutant) made.place.0 ≡ false }
+    requires few { length (places_by variants.old made.mutant) < MAX_REPLACEMENTS }
     requires within { made.place.0 < length code.now.instrs }
-    ensures added { OnOk result (Adds code.now variants.old variants.new m made.place.0 made.with) }
-    ensures rows { OnOk result (rows.new ≡ rows.old ++ row_of variants.new m made ∷ []) }
+    ensures added { OnOk result (Adds code.now variants.old variants.new made.mutant made.place.0 made.with) }
+    ensures rows { OnOk result (rows.new ≡ rows.old ++ row_of variants.new made ∷ []) }
     ensures mutants { mutants_of variants.new ≡ mutants_of variants.old }
-    ensures others { (n : ℕ) → n ≢ m → chosen_by variants.new n ≡ chosen_by variants.old n }
+    ensures places { OnOk result (places_by variants.new made.mutant ≡ places_by variants.old made.mutant ++ made.place.0 ∷ []) }
+    ensures others { (n : ℕ) → n ≢ made.mutant → chosen_by variants.new n ≡ chosen_by variants.old n }
     ensures fits { FitsTable code.now variants.old → FitsPlace code.now made.place.0 made.with → FitsTable code.now variants.new }
 {
     let Made {
+        mutant,
         function,
         place,
         with,
     } = made;
-    variants.add(alloc, code, m, place, with)?;
-    let variant = variants.variant(m, place);
+    variants.add(alloc, code, mutant, place, with)?;
+    let variant = variants.variant(mutant, place);
     rows.push(MutantRow {
+        mutant,
         function,
         place,
         variant,
     })?;
     Ok(())
+}
+
+/// How many mutants these are replacements of, which are in the order of the mutants.
+fn mutants_in(all: &[Made]) -> u32
+    ensures { result ≡ spec.last_mutant all.now }
+{
+    match all.last() {
+        Some(made) => made.mutant,
+        None => 0,
+    }
 }
 
 /// Makes the list of these replacements.
@@ -51,19 +67,17 @@ pub(crate) fn list_of(
     code: &Code,
     all: Items<Made>,
 ) -> Result<MutantList, OutOfMemory>
-    requires few { length all ≤ MAX_LISTED_MUTANTS }
+    requires order { AreInOrder [] all }
     requires fit { AllFit code.now all }
     ensures list { IfOk result (λ list. IsListOf code.now all list) }
     ensures fits { IfOk result (λ list. FitsTable code.now list.variants) }
 {
-    let mut variants = Variants::new(alloc, all.len() as u32 + 1)?;
+    let mut variants = Variants::new(alloc, mutants_in(all.as_slice()) + 1)?;
     let mut rows = Items::new(alloc);
     let mut left = all.into_vec();
     left.reverse();
-    let mut m = 1;
     'each: while let Some(made) = left.pop() {
-        add_row(alloc, code, &mut variants, &mut rows, m, made)?;
-        m += 1;
+        add_row(alloc, code, &mut variants, &mut rows, made)?;
     }
     Ok(MutantList { variants, rows })
 }

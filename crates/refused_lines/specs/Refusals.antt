@@ -84,8 +84,10 @@ broken_line text tokens starts fault = module_line text (offset_of text tokens (
 abbrev pub mutants_line : MutantError → Option Text
 mutants_line (mutant.Lengths row) = Some (refused_line (codes "mutants") row (codes "Lengths"))
 mutants_line (mutant.Header row) = Some (refused_line (codes "mutants") row (codes "Header"))
+mutants_line (mutant.Numbering row) = Some (refused_line (codes "mutants") row (codes "Numbering"))
 mutants_line (mutant.UnknownFunction row) = Some (refused_line (codes "mutants") row (codes "UnknownFunction"))
 mutants_line (mutant.NoPlace row) = Some (refused_line (codes "mutants") row (codes "NoPlace"))
+mutants_line (mutant.SamePlace row) = Some (refused_line (codes "mutants") row (codes "SamePlace"))
 mutants_line (mutant.NotAnInstruction row) = Some (refused_line (codes "mutants") row (codes "NotAnInstruction"))
 mutants_line (mutant.NotOfItsType row) = Some (refused_line (codes "mutants") row (codes "NotOfItsType"))
 mutants_line (mutant.Limit row) = Some (refused_line (codes "mutants") row (codes "Limit"))

@@ -17,7 +17,7 @@ returns-then-wanted-from-clause-found g c files all steps list =
     let above = c.if-wanted-from.true in
     let from = c.from.ensures in
     let mutants = c.mutants.ensures.mutants in
-    let past : length all < c.args.wanted.mutant = omega (arith, count, above, from, mutants) in
+    let past : last_mutant all < c.args.wanted.mutant = omega (arith, count, above, from, mutants) in
     subst (λ s. Found files (λ name. ⊥) (alone_end answers c.args.wanted c.args.s.now.m all c.args.s.now.suite) counts counts (Err s))
     (sym c.refusal.ensures)
     (mutant_missing files answers c.args.wanted.mutant c.args.wanted.test c.args.s.now.m all c.args.s.now.suite counts c.no_mutant_line-line.result past
@@ -36,7 +36,7 @@ returns-in-None-clause-found g c files all steps list =
     let below = c.if-wanted-from.false in
     let from = c.from.ensures in
     let mutants = c.mutants.ensures.mutants in
-    let within : c.args.wanted.mutant ≤ length all = omega (arith, count, below, from, mutants) in
+    let within : c.args.wanted.mutant ≤ last_mutant all = omega (arith, count, below, from, mutants) in
     subst (λ s. Found files (λ name. ⊥) (alone_end answers c.args.wanted c.args.s.now.m all c.args.s.now.suite) counts counts (Err s))
     (sym c.refusal-in-None.ensures)
     (test_missing files answers c.args.wanted.mutant c.args.wanted.test c.args.s.now.m all c.args.s.now.suite counts c.no_test_line-line.result within
@@ -49,7 +49,7 @@ returns-in-Ok-clause-found g c files all steps list =
     let below = c.if-wanted-from.false in
     let from = c.from.ensures in
     let mutants = c.mutants.ensures.mutants in
-    let within : c.args.wanted.mutant ≤ length all = omega (arith, count, below, from, mutants) in
+    let within : c.args.wanted.mutant ≤ last_mutant all = omega (arith, count, below, from, mutants) in
     text_found files answers c.args.wanted.mutant c.args.wanted.test c.args.s.now.m all c.args.s.now.suite c.in-Some.t.now c.args.s.now.list list steps
     (g.P.Ports.outside c.args.ports.now).asked (g.P.Ports.outside c.text_of.new.ports).asked within (sym c.in-Some.ensures) c.in-Ok.text
     c.in-Ok.ensures.text c.in-Ok.ensures.asks
@@ -61,6 +61,6 @@ returns-in-Err-clause-found g c files all steps list =
     let below = c.if-wanted-from.false in
     let from = c.from.ensures in
     let mutants = c.mutants.ensures.mutants in
-    let within : c.args.wanted.mutant ≤ length all = omega (arith, count, below, from, mutants) in
+    let within : c.args.wanted.mutant ≤ last_mutant all = omega (arith, count, below, from, mutants) in
     none_found files answers c.args.wanted.mutant c.args.wanted.test c.args.s.now.m all c.args.s.now.suite c.in-Some.t.now c.args.s.now.list list steps
     (g.P.Ports.outside c.args.ports.now).asked (g.P.Ports.outside c.text_of.new.ports).asked within (sym c.in-Some.ensures) c.in-Err.ensures.asks_at_most

@@ -3,7 +3,7 @@ use Rattle.mutant_records.proofs.Tables.{TableSoFar}
 use Rattle.mutant_records.proofs.table.list_of.Given as goal
 
 abbrev pub invariant-each : goal.invariant-each
-invariant-each l = TableSoFar l.code l.initial.variants l.fn.all l.m l.variants l.rows l.left.items
+invariant-each l = TableSoFar l.code l.initial.variants l.fn.all l.variants l.rows l.left.items
 
 abbrev pub decreases-each : goal.decreases-each
 decreases-each l = vec_len l.left
