@@ -14,7 +14,7 @@ use Rattle.worked_example.specs.Codes.{case_of}
 
 -- mutant 1 has `sub` in the place of `add`
 table : Table
-table = record { chosen = None ∷ Some (0, 1) ∷ []; mentioned = (first_instr Sub ∷ []) ∷ [] }
+table = record { chosen = [] ∷ ((0, 1) ∷ []) ∷ []; mentioned = (first_instr Sub ∷ []) ∷ [] }
 
 module _ (memory : List ℕ) where
   abbrev run : ℕ → ℕ → ℕ → Trial State Change

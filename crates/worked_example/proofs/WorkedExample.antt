@@ -19,7 +19,7 @@ use Rattle.worked_example.specs.Codes.{case_of}
 -- mutant 1 subtracts in the place of `add`, and mutant 2 compares with 3 in the place of 10
 table : Table
 table = record {
-  chosen = None ∷ Some (0, 1) ∷ Some (1, 1) ∷ [];
+  chosen = [] ∷ ((0, 1) ∷ []) ∷ ((1, 1) ∷ []) ∷ [];
   mentioned = (first_instr Sub ∷ []) ∷ (Cmp Sgt W32 (Reg 2) (Word 3) ∷ []) ∷ [];
 }
 
