@@ -1,5 +1,5 @@
 -- The definitions, computed on the example: its outcomes and lengths as they come out by hand.
-use Rattle.std.proofs.Common.{◌≡◌, ℕ, List, [], ◌∷◌, length, Some, None, refl}
+use Rattle.std.proofs.Common.{◌≡◌, ℕ, List, [], ◌∷◌, length, Some, refl}
 use Rattle.am_base.specs.declared.word.BinOp.TheVariants.{Sub}
 use Rattle.am_base.specs.declared.outcome.Ending.TheVariants.{Return, Budget}
 use Rattle.am_base.specs.declared.outcome.Outcome.{Outcome}

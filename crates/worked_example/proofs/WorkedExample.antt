@@ -1,5 +1,5 @@
 -- The worked example of docs/EXAMPLE.md, computed from the definitions: the unchanged program and two mutants on the arguments 2 and 2.
-use Rattle.std.proofs.Common.{◌≡◌, ℕ, List, [], ◌∷◌, Some, None, refl}
+use Rattle.std.proofs.Common.{◌≡◌, ℕ, List, [], ◌∷◌, refl}
 use Rattle.am_base.specs.declared.word.Width.TheVariants.{W32}
 use Rattle.am_base.specs.declared.word.BinOp.TheVariants.{Sub}
 use Rattle.am_base.specs.declared.word.Pred.TheVariants.{Sgt}
