@@ -194,9 +194,13 @@ module _ (s : Setting) (a : Addresses) where
   leaves_more is js (p ∷ ps) left h g =
       ⊎_elim
       (λ l. inl (h (code p) l.0, leaves_more is js ps left h l.1))
-      (λ r. inr (r.0, r.1, leaves_more (is ++ code p ∷ []) (js ++ code p ∷ []) ps r.0
-      (λ i k. ⊎_elim (λ m. among_front i js (code p ∷ []) (h i m)) (λ e. subst (λ j. IsAmong j (js ++ code p ∷ [])) (sym e) (among_last (code p) js))
-      (among_push i (code p) is k)) r.2))
+      (λ r. inr (
+        r.0,
+        r.1,
+        leaves_more (is ++ code p ∷ []) (js ++ code p ∷ []) ps r.0
+            (λ i k. ⊎_elim (λ m. among_front i js (code p ∷ []) (h i m)) (λ e. subst (λ j. IsAmong j (js ++ code p ∷ [])) (sym e) (among_last (code p) js))
+            (among_push i (code p) is k)) r.2,
+      ))
       g
 
   leaves_on : (is : List Instr) (j : Instr) (ps left : List Op) → Leaves is ps left → Leaves (is ++ j ∷ []) ps left
