@@ -1,8 +1,6 @@
 -- One more of the parts of a text.
 use Rattle.std.proofs.Common.{◌≡◌, ◌<◌, ℕ, zero, suc, ◌+◌, ◌++◌, ◌∷◌, [], List, flat_map, take, length, get_or, ap, ◌∙◌, arith, add-one}
-use Rattle.std.specs.Prelude.{decimal}
 use Rattle.std.specs.List.{range_with_len}
-use Rattle.std.proofs.lemmas.List.{take_more}
 use Rattle.std.proofs.lemmas.Grind.{flat_map-append, common_steps}
 use Rattle.test_suite.specs.declared.suite.Test.{Test}
 use Rattle.exec_core.specs.declared.result.Split.{Split}

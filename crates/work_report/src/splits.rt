@@ -1,7 +1,7 @@
 //! The lines of the splits.
 
 ghost use Rattle.std.specs.Prelude.{◌≡◌, ◌++◌, ◌∷◌, [], decimal, flat_map, slice_get, unwrap_or, OnOk, Some};
-ghost use Rattle.work_report.specs.Report.{spaced, split_line, split_lines, split_text};
+ghost use Rattle.work_report.specs.Report.{split_line, split_lines, split_text};
 
 use crate::names::name_of;
 use am_base::OutOfMemory;
@@ -9,6 +9,18 @@ use am_lists::{Bytes, Items};
 use exec_core::Split;
 use line_parts::{put_after, put_spaced};
 use test_suite::Suite;
+
+fn put_split(out: &mut Bytes, name: &[u8], split: &Split) -> Result<(), OutOfMemory>
+    ensures { OnOk result (out.new ≡ out.old ++ split_line name.now split.now) }
+{
+    out.extend(b"split,")?;
+    out.extend(name)?;
+    put_after(out, b',', split.step)?;
+    out.push(b',')?;
+    put_spaced(out, split.parts.as_slice())?;
+    out.push(b'\n')?;
+    Ok(())
+}
 
 /// Returns the splits of test `t`, counted from 0.
 fn splits_of(splits: &[Items<Split>], t: usize) -> &[Split]
