@@ -1,7 +1,7 @@
 //! The text of a report: letters, score, work and splits.
 #![tactic(auto)]
 
-mod numbers;
+mod names;
 mod score;
 mod show;
 mod splits;

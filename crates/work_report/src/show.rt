@@ -5,7 +5,6 @@ ghost use Rattle.std.specs.Option.{option_copied};
 ghost use Rattle.work_report.specs.Report.{FitsWords, load_line, total_of};
 ghost use Rattle.work_report.specs.Report as spec;
 
-use crate::numbers::put_number;
 use crate::score::put_score;
 use crate::text::report;
 use crate::works::put_works;
@@ -13,6 +12,7 @@ use am_base::OutOfMemory;
 use am_lists::{Bytes, Items};
 use exec_core::{Split, Work};
 use kill_matrix::Matrix;
+use line_parts::put_number;
 use std::alloc::Global;
 use test_suite::Suite;
 
