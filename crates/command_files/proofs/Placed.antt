@@ -1,5 +1,5 @@
 -- The item that breaks a rule begins at a token of the text.
-use Rattle.std.proofs.Common.{◌≡◌, ℕ, zero, suc, ◌+◌, ◌<◌, Bool, List, [], ◌∷◌, length, Some, None, ap, refl, subst, sym, ◌∙◌, arith}
+use Rattle.std.proofs.Common.{◌≡◌, ℕ, zero, suc, ◌<◌, Bool, false, List, [], ◌∷◌, length, Some, None, ap, refl, subst, sym, ◌∙◌, arith}
 use Rattle.std.specs.Prelude.{slice_get}
 use Rattle.std.proofs.lemmas.List.{length-map}
 use Rattle.code_form.specs.declared.sign.PortSign.{PortSign}
@@ -31,8 +31,8 @@ pub fault-placed : (signs : List PortSign) (text : Text) (tokens : List Token) (
     → HasItems text tokens items starts → fault items signs ≡ Some f
     → (start : ℕ) × (token : Token) × (slice_get starts f.item ≡ Some start) × (slice_get tokens start ≡ Some token)
 fault-placed signs text tokens items starts f h e =
-  let (x, here, _) = fault-broken items signs f e in
-  let m = h.whole in
-  let (start, at, below) = kept-start (length (lexemes text tokens)) false false (lexemes text tokens) [] m.pieces f.item x m.whole (ap (λ xs. slice_get xs f.item) m.tree ∙ here) in
-  let (token, there) = some_token tokens start (subst (λ n. start < n) (length-map tokens (lexeme text)) below) in
-  (start, token, ap (λ xs. slice_get xs f.item) (sym m.places) ∙ at, there)
+    let (x, here, _) = fault-broken items signs f e in
+    let m = h.whole in
+    let (start, at, below) = kept-start (length (lexemes text tokens)) false false (lexemes text tokens) [] m.pieces f.item x m.whole (ap (λ xs. slice_get xs f.item) m.tree ∙ here) in
+    let (token, there) = some_token tokens start (subst (λ n. start < n) (length-map tokens (lexeme text)) below) in
+    (start, token, ap (λ xs. slice_get xs f.item) (sym m.places) ∙ at, there)
