@@ -286,6 +286,9 @@ module _ (s : Setting) (a : Addresses) where
             by false e other rest =
                 (n ∷ rest.0, rest.1 ∙ append_assoc words (n ∷ []) rest.0, inr (numbers (map (signed w) rest.0), refl, rest.2))
 
+      abbrev words_if : Width → Bool → List ℕ → List Op
+      words_if w b ns = numbers (if b then map (signed w) ns else [])
+
       numbers_left : (k : Option TyScalar) (y : Opd) → s.kind t ≡ k → x ≡ y → Found (numbers (tried_numbers k y)) (numbers (new_numbers k y))
       numbers_left None y e same = refl
       numbers_left (Some Ptr) y e same = refl
@@ -305,10 +308,7 @@ module _ (s : Setting) (a : Addresses) where
               subst (λ m. IsAmong (code (f (opd.Number (signed w m)))) (code o ∷ [])) is (inl (alike (opd.Number (signed w (word_of w z))) (back ∙ sym old))))
               (any_push (λ m. m == n) [] (word_of w z) h)
 
-          abbrev words_if : Bool → List ℕ → List Op
-          words_if b ns = numbers (if b then map (signed w) ns else [])
-
-          by : (b : Bool) → Found (words_if b (tried_words w (word_of w z))) (words_if b (new_words w (word_of w z)))
+          by : (b : Bool) → Found (words_if w b (tried_words w (word_of w z))) (words_if w b (new_words w (word_of w z)))
           by true =
               let all = words_left w (word_of w z) (code o ∷ []) [] (tried_words w (word_of w z)) seen in
               subst (λ ns. Found (numbers (map (signed w) (tried_words w (word_of w z)))) (numbers (map (signed w) ns))) (sym all.1) all.2
