@@ -55,8 +55,8 @@ fn view_over<F: Shelf, K: Sink, P: Ports>(
         return (ports, Status::Usage);
     };
     match command {
-        ViewCommand::Number { module } => {
-            let status = number_written(alloc, shelf, sink, module, &ports);
+        ViewCommand::Number { module: name } => {
+            let status = number_written(alloc, shelf, sink, name, &ports);
             (ports, status)
         }
         ViewCommand::Page { files } => page_written(

@@ -1,5 +1,5 @@
 -- One more number that passes a test.
-use Rattle.std.proofs.Common.{◌≡◌, ℕ, ◌+◌, ◌≤◌, Bool, true, false, [], ◌∷◌, ◌++◌, refl, ap, ◌∙◌, arith}
+use Rattle.std.proofs.Common.{◌≡◌, ℕ, ◌+◌, ◌≤◌, Bool, true, false, [], ◌∷◌, ap, ◌∙◌, arith, add-one}
 use Rattle.std.specs.Prelude.{count_by, cond}
 use Rattle.std.specs.List.{range_with_len}
 use Rattle.std.proofs.lemmas.List.Sums.{sum_by-append}
@@ -10,7 +10,11 @@ one-at-most true = omega arith
 one-at-most false = omega arith
 
 pub count-more : (p : ℕ → Bool) (n : ℕ) → count_by p (range_with_len 0 (n + 1)) ≡ count_by p (range_with_len 0 n) + cond (p n) 1 0
-count-more p n = ap (count_by p) (range_more 0 n n (omega arith)) ∙ sum_by-append (λ x. cond (p x) 1 0) (range_with_len 0 n) (n ∷ [])
+count-more p n =
+    let one : 0 + cond (p n) 1 0 ≡ cond (p n) 1 0 = omega arith in
+    rw add-one
+    (ap (count_by p) (range_more 0 n n (omega arith)) ∙ sum_by-append (λ x. cond (p x) 1 0) (range_with_len 0 n) (n ∷ [])
+    ∙ ap (λ k. count_by p (range_with_len 0 n) + k) one)
 
 pub few-more : (b : Bool) (count n : ℕ) → count ≤ n → count + cond b 1 0 ≤ n + 1
 few-more b count n h = let one = one-at-most b in omega (arith, one, h)

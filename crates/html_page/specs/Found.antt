@@ -4,11 +4,13 @@ use Rattle.exec_core.specs.declared.result.Work.{Work}
 use Rattle.kill_matrix.specs.Score.{Letters, killed_of}
 use Rattle.html_page.specs.Numbers.{thousands}
 
+abbrev pub counts_part : ℕ → ℕ → List ℕ
+counts_part killed mutants =
+    codes "<p class=big><b>" ++ thousands killed ++ codes "</b> of <b>" ++ thousands mutants ++ codes "</b> mutants are killed.</p>\n"
+
 -- how many mutants are killed, the original not counted
 abbrev pub score_part : Letters → List ℕ
-score_part grid =
-    codes "<p class=big><b>" ++ thousands (killed_of grid) ++ codes "</b> of <b>" ++ thousands (grid.mutants - 1)
-    ++ codes "</b> mutants are killed.</p>\n"
+score_part grid = counts_part (killed_of grid) (grid.mutants - 1)
 
 -- how many steps the tests took, and how many they take where each mutant runs by itself
 abbrev pub sums_part : Work → List ℕ

@@ -19,10 +19,13 @@ item_of killed x = start_of killed ++ decimal x.mutant ++ codes " <code>" ++ esc
 abbrev pub asked_one : Letters → ℕ → Bool → Listed → List ℕ
 asked_one grid place killed x = if is_asked grid place killed x then item_of killed x else []
 
--- the name of a function stands before its first instruction
+-- the name of a function, and the front of its table
+abbrev pub name_of : List ℕ → List ℕ
+name_of name = codes "</table></div>\n<h3>@" ++ escaped name ++ codes "</h3>\n<div class=t><table>\n"
+
+-- it stands before the first instruction
 abbrev pub heading_of : Line → List ℕ
-heading_of line =
-    if line.number == 1 then codes "</table></div>\n<h3>@" ++ escaped line.function ++ codes "</h3>\n<div class=t><table>\n" else []
+heading_of line = if line.number == 1 then name_of line.function else []
 
 -- an instruction: its number, its text and the mutants there, survivors first
 abbrev pub line_row : Letters → List Listed → ℕ → Line → List ℕ

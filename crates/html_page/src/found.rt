@@ -11,17 +11,24 @@ use exec_core::Work;
 use kill_matrix::Matrix;
 use work_report::total_of;
 
+/// Appends a score.
+fn put_counts(out: &mut Bytes, killed: u64, mutants: u64) -> Result<(), OutOfMemory>
+    ensures { OnOk result (out.new ≡ out.old ++ spec.counts_part killed mutants) }
+{
+    out.extend(b"<p class=big><b>")?;
+    put_thousands(out, killed)?;
+    out.extend(b"</b> of <b>")?;
+    put_thousands(out, mutants)?;
+    out.extend(b"</b> mutants are killed.</p>\n")?;
+    Ok(())
+}
+
 /// Appends how many mutants are killed.
 pub(crate) fn put_score(out: &mut Bytes, matrix: &Matrix) -> Result<(), OutOfMemory>
     ensures { OnOk result (out.new ≡ out.old ++ spec.score_part matrix.now) }
 {
     let (killed, mutants) = matrix.score();
-    out.extend(b"<p class=big><b>")?;
-    put_thousands(out, killed as u64)?;
-    out.extend(b"</b> of <b>")?;
-    put_thousands(out, mutants as u64)?;
-    out.extend(b"</b> mutants are killed.</p>\n")?;
-    Ok(())
+    put_counts(out, killed as u64, mutants as u64)
 }
 
 /// Appends the sums of work as a sentence.

@@ -80,14 +80,22 @@ fn put_at(
     Ok(())
 }
 
+/// Appends the name of a function, and begins its table.
+fn put_name(out: &mut Bytes, name: &[u8]) -> Result<(), OutOfMemory>
+    ensures { OnOk result (out.new ≡ out.old ++ spec.name_of name.now) }
+{
+    out.extend(b"</table></div>\n<h3>@")?;
+    put_text(out, name)?;
+    out.extend(b"</h3>\n<div class=t><table>\n")?;
+    Ok(())
+}
+
 /// Appends the name of a function before its first instruction.
 fn put_heading(out: &mut Bytes, line: &Line) -> Result<(), OutOfMemory>
     ensures { OnOk result (out.new ≡ out.old ++ spec.heading_of line.now) }
 {
     if line.number == 1 {
-        out.extend(b"</table></div>\n<h3>@")?;
-        put_text(out, line.function.as_slice())?;
-        out.extend(b"</h3>\n<div class=t><table>\n")?;
+        put_name(out, line.function.as_slice())?;
     }
     Ok(())
 }

@@ -76,7 +76,8 @@ fn put_column(out: &mut Bytes, test: &Test) -> Result<(), OutOfMemory>
     ensures { OnOk result (out.new ≡ out.old ++ spec.column_of test.now) }
 {
     out.extend(b"<th scope=col>")?;
-    put_text(out, test.name.as_slice())
+    put_text(out, test.name.as_slice())?;
+    Ok(())
 }
 
 /// Appends the heads of the columns.
