@@ -25,10 +25,14 @@ killed_one grid t m = if is_kill grid t m then 32 ∷ decimal m else []
 abbrev pub took : Work → List ℕ
 took w = codes "<td>" ++ thousands w.steps ++ codes "<td>" ++ thousands w.alone ++ codes "<td class=w>"
 
+-- the name of a test and how many mutants it kills
+abbrev pub front_of : List ℕ → ℕ → List ℕ
+front_of name count = codes "<tr><th scope=row>" ++ escaped name ++ codes "<td>" ++ thousands count
+
 abbrev pub test_row : Suite → Letters → List Work → ℕ → List ℕ
 test_row suite grid works t =
-    codes "<tr><th scope=row>" ++ escaped (name_at suite t) ++ codes "<td>" ++ thousands (kill_count grid t)
-    ++ took (unwrap_or (slice_get works t) no_work) ++ each_below (killed_one grid t) grid.mutants ++ 10 ∷ []
+    front_of (name_at suite t) (kill_count grid t) ++ took (unwrap_or (slice_get works t) no_work) ++ each_below (killed_one grid t) grid.mutants
+    ++ 10 ∷ []
 
 abbrev pub tests_part : Suite → Letters → List Work → List ℕ
 tests_part suite grid works =

@@ -1,6 +1,6 @@
 //! The survivors.
 
-ghost use Rattle.std.specs.Prelude.{◌≡◌, ◌++◌, flat_map, OnOk};
+ghost use Rattle.std.specs.Prelude.{◌≡◌, ◌++◌, flat_map, slice_get, OnOk};
 ghost use Rattle.std.specs.Option.{option_copied};
 ghost use Rattle.html_page.specs.Survivors as spec;
 
@@ -36,13 +36,20 @@ fn put_place(out: &mut Bytes, line: Option<&Line>) -> Result<(), OutOfMemory>
     Ok(())
 }
 
+/// Appends where the instruction at a place is, and its text.
+fn put_original(out: &mut Bytes, lines: &[Line], place: usize) -> Result<(), OutOfMemory>
+    ensures { OnOk result (out.new ≡ out.old ++ spec.place_text (slice_get lines.now place)) }
+{
+    put_place(out, lines.get(place))
+}
+
 /// Appends the row of a replacement.
 fn put_row(out: &mut Bytes, lines: &[Line], listed: &Listed) -> Result<(), OutOfMemory>
     ensures { OnOk result (out.new ≡ out.old ++ spec.survivor_row lines.now listed.now) }
 {
     out.extend(b"<tr><th scope=row>")?;
     put_number(out, listed.mutant as u64)?;
-    put_place(out, lines.get(listed.place as usize))?;
+    put_original(out, lines, listed.place as usize)?;
     out.extend(b"<td><code>")?;
     put_text(out, listed.text.as_slice())?;
     out.extend(b"</code>\n")?;

@@ -77,6 +77,17 @@ fn put_took(out: &mut Bytes, work: Work) -> Result<(), OutOfMemory>
     Ok(())
 }
 
+/// Appends the name of a test and how many mutants it kills.
+fn put_front(out: &mut Bytes, name: &[u8], kills: u64) -> Result<(), OutOfMemory>
+    ensures { OnOk result (out.new ≡ out.old ++ spec.front_of name.now kills) }
+{
+    out.extend(b"<tr><th scope=row>")?;
+    put_text(out, name)?;
+    out.extend(b"<td>")?;
+    put_thousands(out, kills)?;
+    Ok(())
+}
+
 /// Appends the row of a test.
 fn put_test(
     out: &mut Bytes,
@@ -88,10 +99,8 @@ fn put_test(
     requires { t < length matrix.now.tests }
     ensures { OnOk result (out.new ≡ out.old ++ spec.test_row suite.now matrix.now works.now t) }
 {
-    out.extend(b"<tr><th scope=row>")?;
-    put_text(out, name_of(suite, t as usize))?;
-    out.extend(b"<td>")?;
-    put_thousands(out, kill_count(matrix, t) as u64)?;
+    let kills = kill_count(matrix, t);
+    put_front(out, name_of(suite, t as usize), kills as u64)?;
     put_took(out, work_of(works, t as usize))?;
     put_kills(out, matrix, t)?;
     out.push(b'\n')?;

@@ -8,8 +8,7 @@ returns c =
       c.in_ok-put_text.ensures,
       c.as_slice.ensures,
       c.in_ok-extend-2.ensures.ok,
-      c.in_ok-put_place.ensures,
-      c.get.ensures,
+      c.in_ok-put_original.ensures,
       c.in_ok-put_number.ensures,
       c.in_ok-extend.ensures.ok,
     )

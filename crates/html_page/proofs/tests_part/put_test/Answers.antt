@@ -8,11 +8,8 @@ returns c =
       c.in_ok-put_kills.ensures,
       c.in_ok-put_took.ensures,
       c.work_of.ensures,
-      c.in_ok-put_thousands.ensures,
-      c.kill_count.ensures,
-      c.in_ok-extend-2.ensures.ok,
-      c.in_ok-put_text.ensures,
+      c.in_ok-put_front.ensures,
       c.name_of.ensures,
-      c.in_ok-extend.ensures.ok,
+      c.kill_count-kills.ensures,
     )
     (simp append_assoc)
