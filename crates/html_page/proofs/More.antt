@@ -1,5 +1,5 @@
--- One more number that passes a test.
-use Rattle.std.proofs.Common.{◌≡◌, ℕ, ◌+◌, ◌≤◌, Bool, true, false, [], ◌∷◌, ap, ◌∙◌, arith, add-one}
+-- One more number that passes a test, and parts that are appended.
+use Rattle.std.proofs.Common.{◌≡◌, ℕ, ◌+◌, ◌≤◌, Bool, true, false, List, [], ◌∷◌, ◌++◌, append_assoc, ap, ◌∙◌, arith, add-one}
 use Rattle.std.specs.Prelude.{count_by, cond}
 use Rattle.std.specs.List.{range_with_len}
 use Rattle.std.proofs.lemmas.List.Sums.{sum_by-append}
@@ -18,3 +18,7 @@ count-more p n =
 
 pub few-more : (b : Bool) (count n : ℕ) → count ≤ n → count + cond b 1 0 ≤ n + 1
 few-more b count n h = let one = one-at-most b in omega (arith, one, h)
+
+-- four parts that are appended one by one
+pub four-parts : (o p q r s a b c d : List ℕ) → p ≡ o ++ a → q ≡ p ++ b → r ≡ q ++ c → s ≡ r ++ d → s ≡ o ++ (a ++ (b ++ (c ++ d)))
+four-parts o p q r s a b c d e1 e2 e3 e4 = rw (e4, e3, e2, e1) (simp append_assoc)

@@ -1,7 +1,7 @@
 //! The table of the tests.
 
-ghost use Rattle.std.specs.Prelude.{◌≡◌, ◌<◌, ◌++◌, if◌then◌else◌, length, OnOk};
-ghost use Rattle.work_report.specs.Report.{each_below};
+ghost use Rattle.std.specs.Prelude.{◌≡◌, ◌<◌, ◌++◌, if◌then◌else◌, length, slice_get, unwrap_or, OnOk};
+ghost use Rattle.work_report.specs.Report.{each_below, name_at, no_work};
 ghost use Rattle.html_page.specs.Tests as spec;
 
 use crate::escape::put_text;
@@ -77,7 +77,7 @@ fn put_took(out: &mut Bytes, work: Work) -> Result<(), OutOfMemory>
     Ok(())
 }
 
-/// Appends the name of a test and how many mutants it kills.
+/// Appends a name and how many mutants the test with it kills.
 fn put_front(out: &mut Bytes, name: &[u8], kills: u64) -> Result<(), OutOfMemory>
     ensures { OnOk result (out.new ≡ out.old ++ spec.front_of name.now kills) }
 {
@@ -86,6 +86,22 @@ fn put_front(out: &mut Bytes, name: &[u8], kills: u64) -> Result<(), OutOfMemory
     out.extend(b"<td>")?;
     put_thousands(out, kills)?;
     Ok(())
+}
+
+/// Appends the name of a test and how many mutants it kills.
+fn put_start(out: &mut Bytes, suite: &Suite, matrix: &Matrix, t: u32) -> Result<(), OutOfMemory>
+    requires { t < length matrix.now.tests }
+    ensures { OnOk result (out.new ≡ out.old ++ spec.front_of (name_at suite.now t) (spec.kill_count matrix.now t)) }
+{
+    let kills = kill_count(matrix, t);
+    put_front(out, name_of(suite, t as usize), kills as u64)
+}
+
+/// Appends what the test with a number took.
+fn put_work(out: &mut Bytes, works: &[Work], t: u32) -> Result<(), OutOfMemory>
+    ensures { OnOk result (out.new ≡ out.old ++ spec.took (unwrap_or (slice_get works.now t) no_work)) }
+{
+    put_took(out, work_of(works, t as usize))
 }
 
 /// Appends the row of a test.
@@ -99,9 +115,8 @@ fn put_test(
     requires { t < length matrix.now.tests }
     ensures { OnOk result (out.new ≡ out.old ++ spec.test_row suite.now matrix.now works.now t) }
 {
-    let kills = kill_count(matrix, t);
-    put_front(out, name_of(suite, t as usize), kills as u64)?;
-    put_took(out, work_of(works, t as usize))?;
+    put_start(out, suite, matrix, t)?;
+    put_work(out, works, t)?;
     put_kills(out, matrix, t)?;
     out.push(b'\n')?;
     Ok(())
