@@ -29,10 +29,16 @@ took w = codes "<td>" ++ thousands w.steps ++ codes "<td>" ++ thousands w.alone 
 abbrev pub front_of : List ℕ → ℕ → List ℕ
 front_of name count = codes "<tr><th scope=row>" ++ escaped name ++ codes "<td>" ++ thousands count
 
+-- those of a test
+unfoldable pub row_front : Suite → Letters → ℕ → List ℕ
+row_front suite grid t = front_of (name_at suite t) (kill_count grid t)
+
+unfoldable pub row_work : List Work → ℕ → List ℕ
+row_work works t = took (unwrap_or (slice_get works t) no_work)
+
+-- the row of a test: its name, how many mutants it kills, what it took, and which it kills
 abbrev pub test_row : Suite → Letters → List Work → ℕ → List ℕ
-test_row suite grid works t =
-    front_of (name_at suite t) (kill_count grid t) ++ took (unwrap_or (slice_get works t) no_work) ++ each_below (killed_one grid t) grid.mutants
-    ++ 10 ∷ []
+test_row suite grid works t = row_front suite grid t ++ row_work works t ++ each_below (killed_one grid t) grid.mutants ++ 10 ∷ []
 
 abbrev pub tests_part : Suite → Letters → List Work → List ℕ
 tests_part suite grid works =

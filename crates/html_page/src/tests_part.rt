@@ -1,7 +1,7 @@
 //! The table of the tests.
 
-ghost use Rattle.std.specs.Prelude.{◌≡◌, ◌<◌, ◌++◌, if◌then◌else◌, length, slice_get, unwrap_or, OnOk};
-ghost use Rattle.work_report.specs.Report.{each_below, name_at, no_work};
+ghost use Rattle.std.specs.Prelude.{◌≡◌, ◌<◌, ◌++◌, if◌then◌else◌, length, OnOk};
+ghost use Rattle.work_report.specs.Report.{each_below};
 ghost use Rattle.html_page.specs.Tests as spec;
 
 use crate::escape::put_text;
@@ -89,17 +89,19 @@ fn put_front(out: &mut Bytes, name: &[u8], kills: u64) -> Result<(), OutOfMemory
 }
 
 /// Appends the name of a test and how many mutants it kills.
+#[tactic(auto, unfolding(crate::specs::Tests::row_front))]
 fn put_start(out: &mut Bytes, suite: &Suite, matrix: &Matrix, t: u32) -> Result<(), OutOfMemory>
     requires { t < length matrix.now.tests }
-    ensures { OnOk result (out.new ≡ out.old ++ spec.front_of (name_at suite.now t) (spec.kill_count matrix.now t)) }
+    ensures { OnOk result (out.new ≡ out.old ++ spec.row_front suite.now matrix.now t) }
 {
     let kills = kill_count(matrix, t);
     put_front(out, name_of(suite, t as usize), kills as u64)
 }
 
 /// Appends what the test with a number took.
+#[tactic(auto, unfolding(crate::specs::Tests::row_work))]
 fn put_work(out: &mut Bytes, works: &[Work], t: u32) -> Result<(), OutOfMemory>
-    ensures { OnOk result (out.new ≡ out.old ++ spec.took (unwrap_or (slice_get works.now t) no_work)) }
+    ensures { OnOk result (out.new ≡ out.old ++ spec.row_work works.now t) }
 {
     put_took(out, work_of(works, t as usize))
 }
