@@ -1,16 +1,26 @@
 -- What was found of `page`, from what was found of each file and of what follows.
-use Rattle.std.proofs.Common.{◌≡◌, ℕ, ◌+◌, ◌≤◌, List, Result, Ok, Err, refl, inl, inr}
+use Rattle.std.proofs.Common.{◌≡◌, ℕ, ◌+◌, ◌<◌, ◌≤◌, List, [], ◌∷◌, ◌++◌, length, drop, get_or, Result, Ok, Err, refl, sym, ap, ◌∙◌, inl, inr, append_assoc, append-nil}
+use Rattle.std.proofs.lemmas.List.{drop_more, drop_all}
 use Rattle.am_base.specs.Cause.{Rose}
 use Rattle.am_base.specs.Files.{Files}
+use Rattle.code_form.specs.declared.code.Code.{Code}
+use Rattle.code_form.specs.Variant.{Table}
 use Rattle.code_form.specs.declared.sign.PortSign.{PortSign}
 use Rattle.ir_tokens.specs.Bytes.{Text}
 use Rattle.traces.specs.Counts.{IsBetween}
 use Rattle.machine_form.specs.Calls.{Answers}
 use Rattle.ports.specs.Asks.{asked_in, AskedBy, AskedAtMostBy}
+use Rattle.exec_core.specs.declared.result.Work.{Work}
+use Rattle.html_page.specs.Page.{page_text}
+use Rattle.html_page.specs.declared.listed.Listed.{Listed}
 use Rattle.instruction_list.specs.Lines.{lines_of}
+use Rattle.instruction_list.specs.declared.line.Line.{Line}
 use Rattle.mutant_records.specs.Tables.{IsListOf}
 use Rattle.mutant_records.specs.declared.list.MutantList.{MutantList}
-use Rattle.suite_analysis.specs.Runs.{suite_steps, suite_asks}
+use Rattle.mutant_records.specs.declared.list.MutantRow.{MutantRow}
+use Rattle.suite_analysis.specs.Parts.{AreDone}
+use Rattle.suite_analysis.specs.Runs.{suite_steps, suite_asks, works_of}
+use Rattle.suite_analysis.specs.declared.done.Done.{Done}
 use Rattle.test_suite.specs.declared.suite.Suite.{Suite}
 use Rattle.command_plan.specs.declared.status.Input.TheVariants as input
 use Rattle.command_plan.specs.declared.stop.Stop.{Stop}
@@ -27,7 +37,7 @@ use Rattle.command_files.specs.Mutants as mutants_file
 use Rattle.command_files.specs.Tests as tests_file
 use Rattle.commands.specs.Alone.{counts_of}
 use Rattle.commands.specs.Plans.{tests_plan}
-use Rattle.commands.specs.Page.{ArePageFiles, IsPage, full_plan, list_plan, listed_from, page_end, unread_plan}
+use Rattle.commands.specs.Page.{ArePageFiles, IsPage, full_plan, list_plan, listed_at, listed_from, page_end, unread_plan}
 use Rattle.commands.proofs.FilesLemmas.{no_end, rose_later}
 use Rattle.commands.proofs.RunLemmas.{rises_by, rises_within}
 
@@ -116,7 +126,34 @@ module _ (signs : List PortSign) (budget : ℕ) (name mutants tests : Text) (cou
       (fails_found more (Raised last new) tests input.Tests (tests_file.AreRefused m.code budget) Suite (tests_file.AreTests m.code budget)
       (nothing m full) counts counts s (stay counts) h))
 
+-- ---- replacements with their texts
+
+module _ (texts : List Text) (rows : List MutantRow) (all start : List Listed) (k : ℕ) where
+  pub listed_turn : (more : List Listed) (x : Listed) (row : MutantRow) → k < length rows → row ≡ get_or rows k row
+      → all ++ listed_from (drop k rows) texts k ≡ start → more ≡ all ++ x ∷ [] → x ≡ listed_at row texts k
+      → more ++ listed_from (drop (k + 1) rows) texts (k + 1) ≡ start
+  listed_turn more x row h e so_far is at =
+      let rest = listed_from (drop (k + 1) rows) texts (k + 1) in
+      ap (λ t. t ++ rest) is ∙ append_assoc all (x ∷ []) rest ∙ ap (λ y. all ++ y ∷ rest) at
+      ∙ ap (λ rs. all ++ listed_from rs texts k) (ap (λ r. r ∷ drop (k + 1) rows) e ∙ sym (drop_more rows k row h)) ∙ so_far
+
+  pub all_listed : length rows ≤ k → all ++ listed_from (drop k rows) texts k ≡ start → all ≡ start
+  all_listed h so_far = sym (append-nil all) ∙ ap (λ rs. all ++ listed_from rs texts k) (sym (drop_all k rows h)) ∙ so_far
+
 -- ---- behind the files
+
+-- the page of what was found
+pub is_page : (code : Code) (table : Table) (answers : Answers) (suite : Suite) (lines : List Line) (rows : List MutantRow) (texts others : List Text)
+    (done : Done) (text : Text) → AreDone code table answers suite.tests done → texts ≡ others
+    → text ≡ page_text suite done.matrix done.works.items lines (listed_from rows texts 0)
+    → IsPage code table answers suite lines (listed_from rows others 0) text
+is_page code table answers suite lines rows texts others done text d same is = record {
+  grid = done.matrix;
+  mutants = d.mutants;
+  letters = d.letters;
+  is_text = is ∙ ap (λ (works : List Work). page_text suite done.matrix works lines (listed_from rows texts 0)) d.works
+      ∙ ap (λ (ts : List Text). page_text suite done.matrix (works_of code table answers suite.tests) lines (listed_from rows ts 0)) same;
+}
 
 module _ (files : Files) (answers : Answers) (m : Loaded) (full : FullList) (suite : Suite) (list : MutantList)
     (is_list : IsListOf m.code full.all list) (old new : ℕ) (before after : List ℕ) where
