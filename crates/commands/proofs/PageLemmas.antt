@@ -129,13 +129,12 @@ module _ (signs : List PortSign) (budget : ℕ) (name mutants tests : Text) (cou
 -- ---- replacements with their texts
 
 module _ (texts : List Text) (rows : List MutantRow) (all start : List Listed) (k : ℕ) where
-  pub listed_turn : (more : List Listed) (x : Listed) (row : MutantRow) → k < length rows → row ≡ get_or rows k row
-      → all ++ listed_from (drop k rows) texts k ≡ start → more ≡ all ++ x ∷ [] → x ≡ listed_at row texts k
-      → more ++ listed_from (drop (k + 1) rows) texts (k + 1) ≡ start
-  listed_turn more x row h e so_far is at =
+  pub listed_turn : (more : List Listed) (x : Listed) (d : MutantRow) → k < length rows → all ++ listed_from (drop k rows) texts k ≡ start
+      → more ≡ all ++ x ∷ [] → x ≡ listed_at (get_or rows k d) texts k → more ++ listed_from (drop (k + 1) rows) texts (k + 1) ≡ start
+  listed_turn more x d h so_far is at =
       let rest = listed_from (drop (k + 1) rows) texts (k + 1) in
       ap (λ t. t ++ rest) is ∙ append_assoc all (x ∷ []) rest ∙ ap (λ y. all ++ y ∷ rest) at
-      ∙ ap (λ rs. all ++ listed_from rs texts k) (ap (λ r. r ∷ drop (k + 1) rows) e ∙ sym (drop_more rows k row h)) ∙ so_far
+      ∙ ap (λ rs. all ++ listed_from rs texts k) (sym (drop_more rows k d h)) ∙ so_far
 
   pub all_listed : length rows ≤ k → all ++ listed_from (drop k rows) texts k ≡ start → all ≡ start
   all_listed h so_far = sym (append-nil all) ∙ ap (λ rs. all ++ listed_from rs texts k) (sym (drop_all k rows h)) ∙ so_far

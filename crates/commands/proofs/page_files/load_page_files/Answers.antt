@@ -1,10 +1,5 @@
-use Rattle.commands.proofs.PageLemmas.{no_module_page, no_list_page, no_tests_page}
+use Rattle.commands.proofs.PageLemmas.{no_list_page, no_tests_page}
 use Rattle.commands.proofs.page_files.load_page_files.Goals as goal
-
-pub returns-in-Err-load_module-clause-err : goal.returns-in-Err-load_module-clause-err
-returns-in-Err-load_module-clause-err g c counts =
-    no_module_page c.args.signs.now c.args.budget c.args.module_name.now c.args.mutants.now c.args.tests.now counts (g.F.Shelf.files c.args.shelf.now)
-    (g.F.Shelf.faults c.args.shelf.now) (g.F.Shelf.faults c.load_module.new.shelf) c.in-Err-load_module.stop c.in-Err-load_module.ensures.err
 
 pub returns-in-Err-load_listing-clause-err : goal.returns-in-Err-load_listing-clause-err
 returns-in-Err-load_listing-clause-err g c counts =

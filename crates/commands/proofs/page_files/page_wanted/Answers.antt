@@ -11,8 +11,8 @@ returns-in-Err-clause-found g c files full list texts =
     c.analyse_suite-ports.new.meter (g.P.Ports.outside c.args.ports).asked (g.P.Ports.outside c.analyse_suite-ports.result.0).asked
     c.analyse_suite-ports.ensures.meter_within c.analyse_suite-ports.ensures.asks_at_most
 
-pub returns-in-Err-page_of-clause-found : goal.returns-in-Err-page_of-clause-found
-returns-in-Err-page_of-clause-found g c files full list texts =
+pub returns-clause-found : goal.returns-clause-found
+returns-clause-found g c files full list texts =
     let s = c.args.s.now in
     no_page files (answers_in (g.P.Ports.outside c.args.ports).answers) s.m full s.suite s.listing.list list c.args.meter.now
     c.analyse_suite-ports.new.meter (g.P.Ports.outside c.args.ports).asked (g.P.Ports.outside c.analyse_suite-ports.result.0).asked
