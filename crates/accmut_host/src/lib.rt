@@ -5,8 +5,10 @@
 mod adapters;
 mod program;
 mod said;
+mod view;
 
 pub use program::run_program;
+pub use view::run_view;
 
 #[cfg(test)]
 mod tests;

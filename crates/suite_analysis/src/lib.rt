@@ -5,4 +5,5 @@ mod done;
 mod letters;
 mod suite;
 
-pub use suite::report_of;
+pub use done::Done;
+pub use suite::{analyse_suite, report_of};

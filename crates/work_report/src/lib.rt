@@ -8,6 +8,8 @@ mod splits;
 mod text;
 mod works;
 
+pub use names::name_of;
 pub use score::score_text;
 pub use show::{Show, shown};
 pub use text::report;
+pub use works::{total_of, work_of};
