@@ -1,4 +1,5 @@
 pub mod Ranges
+pub mod MoreLines
 pub mod Letters
 pub mod Choosing
 pub mod Words

@@ -3,11 +3,12 @@
 
 mod numbers;
 mod score;
-mod show;
 mod splits;
+mod summary;
 mod text;
 mod works;
 
-pub use score::score_text;
-pub use show::{Show, shown};
+pub use numbers::name_of;
+pub use score::{put_score, score_text};
+pub use summary::summary;
 pub use text::report;

@@ -25,8 +25,8 @@ pub(crate) fn put_after(out: &mut Bytes, byte: u8, n: u64) -> Result<(), OutOfMe
     put_number(out, n)
 }
 
-/// Returns the name of test `t`, counted from 0.
-pub(crate) fn name_of(suite: &Suite, t: usize) -> &[u8]
+/// Returns the name of test `t`, counted from 0, and no bytes where there is no such test.
+pub fn name_of(suite: &Suite, t: usize) -> &[u8]
     ensures { result.now ≡ name_at suite.now t }
 {
     match suite.tests.get(t) {
