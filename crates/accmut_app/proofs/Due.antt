@@ -5,7 +5,7 @@ use Rattle.am_base.specs.Files.{Files}
 use Rattle.am_base.specs.Text.{Written}
 use Rattle.code_form.specs.declared.sign.PortSign.{PortSign}
 use Rattle.ports.specs.Asks.{answers_in}
-use Rattle.work_report.specs.declared.show.Show.TheVariants.{Report}
+use Rattle.suite_analysis.specs.declared.show.Show.TheVariants.{Report}
 use Rattle.command_words.specs.Words.{Text}
 use Rattle.command_words.specs.declared.command.Command.{Command}
 use Rattle.command_words.specs.declared.command.Command.TheVariants.{Run, Check, Make, Alone, Groups, Load}

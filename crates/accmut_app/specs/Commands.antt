@@ -15,7 +15,7 @@ use Rattle.command_words.specs.declared.command.Command.{Command}
 use Rattle.command_words.specs.declared.command.Command.TheVariants.{Run, Check, Make, Alone, Groups, Load}
 use Rattle.command_words.specs.declared.command.Files.{Files}
 use Rattle.command_plan.specs.Plan.{Plan}
-use Rattle.work_report.specs.declared.show.Show.TheVariants.{Report}
+use Rattle.suite_analysis.specs.declared.show.Show.TheVariants.{Report}
 use Rattle.commands.specs.Plans.{check_plan, make_plan, alone_plan, run_plan, groups_plan, load_plan}
 
 abbrev pub is_among : List Text → Text → Bool

@@ -4,7 +4,7 @@ ghost use Rattle.std.specs.Prelude.{◌≡◌, ℕ, ◌+◌, ◌≤◌, ◌<◌,
 ghost use Rattle.am_base.specs.Cause.{Rose};
 ghost use Rattle.am_base.specs.Files.{Files as AllFiles};
 ghost use Rattle.ports.specs.Asks.{answers_in, asked_in};
-ghost use Rattle.work_report.specs.declared.show.Show.TheVariants.{Report};
+ghost use Rattle.suite_analysis.specs.declared.show.Show.TheVariants.{Report};
 ghost use Rattle.command_words.specs.Words.{IsBudget};
 ghost use Rattle.command_plan.specs.Answer.{IsAnswer};
 ghost use Rattle.commands.specs.Alone.{counts_of};
@@ -21,7 +21,7 @@ use exec_core::Meter;
 use flat_machine::Ports;
 use picker::Picker;
 use std::alloc::Global;
-use work_report::Show;
+use suite_analysis::Show;
 
 /// The budget of tests that state none, in steps.
 fn budget_or_default(budget: Option<u64>) -> u64

@@ -5,7 +5,7 @@ use Rattle.code_form.specs.declared.sign.PortSign.{PortSign}
 use Rattle.ports.specs.Asks.{answers_in}
 use Rattle.refused_lines.specs.Refusals.{no_mutant_line, no_test_line}
 use Rattle.test_suite.specs.declared.suite.Test.{Test}
-use Rattle.work_report.specs.declared.show.Show.TheVariants.{Report, Summary}
+use Rattle.suite_analysis.specs.declared.show.Show.TheVariants.{Report, Summary}
 use Rattle.command_words.specs.Words.{Text}
 use Rattle.command_words.specs.declared.command.Command.{Command}
 use Rattle.command_words.specs.declared.command.Command.TheVariants.{Run, Check, Make, Alone, Groups, Load}

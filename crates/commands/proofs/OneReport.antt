@@ -24,7 +24,7 @@ use Rattle.kill_matrix.specs.Verdict.{IsBudgetOrTrap, IsTrapped, IsVerdict}
 use Rattle.kill_matrix.specs.declared.letter.Letter.{Letter}
 use Rattle.kill_matrix.specs.declared.letter.Letter.TheVariants.{Same, Budget, Trap, Return, Output}
 use Rattle.work_report.specs.Report.{shown_text}
-use Rattle.work_report.specs.declared.show.Show.{Show}
+use Rattle.suite_analysis.specs.declared.show.Show.{Show}
 use Rattle.suite_analysis.specs.Runs.{AreVerdicts, AreLetters, work_of, splits_of, works_of, lists_of, suite_steps, suite_asks, IsReport}
 use Rattle.command_plan.specs.Plan.{Counts}
 use Rattle.commands.specs.Alone.{counts_of, trial_on}

@@ -3,6 +3,8 @@
 
 mod done;
 mod letters;
+mod show;
 mod suite;
 
+pub use show::Show;
 pub use suite::report_of;

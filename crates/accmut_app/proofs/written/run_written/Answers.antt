@@ -2,7 +2,7 @@ use Rattle.std.proofs.Common.{◌∙◌, List, ℕ, subst}
 use Rattle.am_base.specs.Cause.{Rose}
 use Rattle.ports.specs.Asks.{answers_in, asked_in}
 use Rattle.command_plan.specs.Answer.{Found}
-use Rattle.work_report.specs.declared.show.Show.TheVariants.{Report}
+use Rattle.suite_analysis.specs.declared.show.Show.TheVariants.{Report}
 use Rattle.commands.specs.Alone.{counts_of}
 use Rattle.commands.specs.Plans.{run_plan}
 use Rattle.accmut_app.specs.Commands.{steps_of}
