@@ -55,12 +55,6 @@ pub enum Command<N> {
         budget: Option<u64>,
         order: Option<N>,
     },
-    /// How far each mutant gets on each test.
-    Why {
-        files: Files<N>,
-        budget: Option<u64>,
-        order: Option<N>,
-    },
     /// A run over the workload that is built in, of this number.
     Load {
         number: u64,
@@ -85,7 +79,6 @@ pub fn wanted<'a>(command: &Command<&'a str>) -> Option<&'a str>
         Command::Run { order, .. } => Some(order_or_depth(*order)),
         Command::Groups { order, .. } => Some(order_or_depth(*order)),
         Command::Reduce { order, .. } => Some(order_or_depth(*order)),
-        Command::Why { order, .. } => Some(order_or_depth(*order)),
         Command::Load { .. } => Some("depth"),
         Command::Check { .. } | Command::Make { .. } | Command::Alone { .. } => None,
     }

@@ -128,23 +128,6 @@ fn reduce_of<'a>(words: &'a [String]) -> Option<Command<&'a str>>
     })
 }
 
-fn why_of<'a>(words: &'a [String]) -> Option<Command<&'a str>>
-    ensures { option_map meant result ≡ spec.why_of (texts_of words.now) }
-{
-    let (files, words) = files_of(words)?;
-    let may = Allowed {
-        budget: true,
-        order: true,
-        splits: false,
-    };
-    let options = options_of(may, words)?;
-    Some(Command::Why {
-        files,
-        budget: options.budget,
-        order: options.order,
-    })
-}
-
 fn load_of<'a>(words: &'a [String]) -> Option<Command<&'a str>>
     ensures { option_map meant result ≡ spec.load_of (texts_of words.now) }
 {
@@ -164,7 +147,6 @@ fn load_of<'a>(words: &'a [String]) -> Option<Command<&'a str>>
 /// | `alone MODULE MUTANTS TESTS M T` | `--budget N` |
 /// | `groups MODULE MUTANTS TESTS T N` | `--budget N`, `--order NAME` |
 /// | `reduce MODULE MUTANTS TESTS` | `--budget N`, `--order NAME` |
-/// | `why MODULE MUTANTS TESTS` | `--budget N`, `--order NAME` |
 /// | `load N` | |
 ///
 /// A number is 1 to 10 digits without a leading zero, or `0`; a budget is one from 1 to
@@ -185,8 +167,6 @@ pub fn command_of<'a>(words: &'a [String]) -> Option<Command<&'a str>>
         groups_of(words)
     } else if name == "reduce" {
         reduce_of(words)
-    } else if name == "why" {
-        why_of(words)
     } else if name == "load" {
         load_of(words)
     } else {
