@@ -5,3 +5,4 @@ pub mod Choosing
 pub mod Words
 pub mod Finding
 pub mod Scanning
+pub mod OneReduced
