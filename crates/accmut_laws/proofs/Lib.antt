@@ -2,6 +2,7 @@ mod OneText
 mod Commands
 mod Again
 mod ListTables
+mod AcceptedLists
 mod Passed
 mod SharedSteps
 mod ClassText

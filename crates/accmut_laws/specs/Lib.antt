@@ -3,3 +3,4 @@ pub mod Classes
 pub mod Passes
 pub mod Headline
 pub mod Orders
+pub mod Mutants

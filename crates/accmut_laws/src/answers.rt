@@ -2,10 +2,12 @@
 ghost use Rattle.std.specs.Prelude.{◌≡◌, ◌⊎◌, ℕ, List, None, Option, Some};
 ghost use Rattle.std.specs.List.{Contains};
 ghost use Rattle.am_base.specs.Text.{appended};
-ghost use Rattle.code_form.specs.declared.code.Code.{Code};
+ghost use Rattle.code_form.specs.declared.sign.PortSign.{PortSign};
 ghost use Rattle.mutant_records.specs.Tables.{IsListOf};
 ghost use Rattle.mutant_records.specs.declared.list.Made.{Made};
 ghost use Rattle.mutant_records.specs.declared.list.MutantList.{MutantList};
+ghost use Rattle.command_files.specs.Mutants.{AreMutants};
+ghost use Rattle.command_files.specs.declared.module.Loaded.{Loaded};
 ghost use Rattle.command_words.specs.Words.{Text};
 ghost use Rattle.command_words.specs.declared.command.Command.{Command};
 ghost use Rattle.command_plan.specs.Answer.{RiseBy};
@@ -16,6 +18,7 @@ ghost use Rattle.command_plan.specs.declared.status.Status.{Status};
 ghost use Rattle.command_plan.specs.declared.status.Status.TheVariants.{Done, OutOfMemory};
 ghost use Rattle.accmut_app.specs.Call.{Devices, FileRose, IsAnswerTo, SinkRose, counts_in};
 ghost use Rattle.accmut_app.specs.Commands.{names_of, plan_of};
+ghost use Rattle.accmut_laws.specs.Mutants.{HaveMutants};
 ghost use Rattle.accmut_laws.specs.Orders.{without_order};
 ghost use Rattle.accmut_laws.specs.Passes.{Passes};
 
@@ -39,10 +42,12 @@ pub fn complete()
         → IsAnswerTo c before after s → (s ≡ Done) ⊎ (s ≡ OutOfMemory) }
 {}
 
-/// Each list of replacements has a table and rows: so a list that is accepted is the list of some
-/// mutants.
+/// An accepted list of mutants gives each of them one to four replacements at different places, and
+/// has a table and rows: so it is the list of some mutants.
 pub fn lists_have_tables()
-    ensures { (code : Code) (all : List Made) → (list : MutantList) × IsListOf code all list }
+    ensures mutants { (signs : List PortSign) (m : Loaded) (text : Text) (all : List Made) → AreMutants signs m text all → HaveMutants all }
+    ensures tables { (signs : List PortSign) (m : Loaded) (text : Text) (all : List Made) → AreMutants signs m text all
+        → (list : MutantList) × IsListOf m.code all list }
 {}
 
 /// Two calls that are Done have written the same, and the meter and the asks of each port rose by the

@@ -5,6 +5,7 @@ use Rattle.am_base.specs.Files.{Files}
 use Rattle.machine_form.specs.Calls.{Answers}
 use Rattle.plain_machine.specs.Tolls.{tolls_of}
 use Rattle.ports.specs.Asks.{asked_in, AskedBy, AskedAtMostBy}
+use Rattle.mutant_records.specs.Lists.{last_mutant}
 use Rattle.mutant_records.specs.Tables.{IsListOf}
 use Rattle.mutant_records.specs.declared.list.Made.{Made}
 use Rattle.mutant_records.specs.declared.list.MutantList.{MutantList}

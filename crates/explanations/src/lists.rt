@@ -6,12 +6,19 @@ pub fn about_mutants(code: &str) -> Option<&'static str> {
     let text = match code {
         "Lengths" =>
             "a record hasn't as many fields as its header; put a field with ; or \" in it between quotes",
-        "Header" => "the first record has to be function;instruction;replacement",
+        "Header" => {
+            "the first record has to be function;instruction;replacement, or the same behind mutant;"
+        }
+        "Numbering" => {
+            "the first field has to be the mutant's number, that of the record before or one more, \
+            and 1 at first; a mutant has at most 4 records"
+        }
         "UnknownFunction" => "the module defines no function of this name (without @)",
         "NoPlace" => {
             "the function has no instruction of this number; they are counted from 1 in the order of \
             the text, phi included"
         }
+        "SamePlace" => "an earlier record of the same mutant replaces this instruction",
         "NotAnInstruction" =>
             "the replacement isn't one whole instruction; leave its result and = out",
         "NotOfItsType" => {

@@ -35,11 +35,13 @@ const MODULE_CODES: [&str; 27] = [
 ];
 
 /// The codes of a refused list of mutants.
-const MUTANT_CODES: [&str; 8] = [
+const MUTANT_CODES: [&str; 10] = [
     "Lengths",
     "Header",
+    "Numbering",
     "UnknownFunction",
     "NoPlace",
+    "SamePlace",
     "NotAnInstruction",
     "NotOfItsType",
     "Limit",

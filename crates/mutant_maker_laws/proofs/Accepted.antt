@@ -44,8 +44,12 @@ module _ (items : List Item) (signs : List PortSign) (code : Code) where
       → RecordGives code (Reads items signs) Plain done (length done + 1) (record_of m) (Ok r)
   unfolding field_at
   record-gives m r done h e small =
-      rw (h.named, h.placed) (Fits r.with, h.reads, rw (le-ltb MAX_LISTED_MUTANTS (length done + 1) small)
-      (ap (λ (n : ℕ). Ok (record { mutant = n; function = r.function; place = r.place; with = r.with })) e))
+      rw (h.named, h.placed) (
+        Fits r.with,
+        h.reads,
+        rw (le-ltb MAX_LISTED_MUTANTS (length done + 1) small)
+            (ap (λ (n : ℕ). Ok (record { mutant = n; function = r.function; place = r.place; with = r.with })) e),
+      )
 
   records-give : (ms : List Made) (rs done : List Asked) → AllZip (IsAsked items signs code) ms rs → AreNumbered (length done + 1) rs
       → length done + length ms ≤ MAX_LISTED_MUTANTS → RecordsGive code (Reads items signs) Plain done (map record_of ms) (Ok (done ++ rs))

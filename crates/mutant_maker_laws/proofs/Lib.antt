@@ -6,4 +6,5 @@ pub mod Reading
 pub mod Names
 pub mod Records
 pub mod Numbered
+pub mod Left
 pub mod Accepted

@@ -6,8 +6,8 @@
 //! text that the row before it answered. Every other line is a remark.
 //!
 //! A line `*N TEXT` of a file means the text N times, where `\n` is a line break, `\xHH` the byte
-//! of two hexadecimal digits, `\#` the number of the time, from 0, and `\\` a `\`. No line break
-//! follows by itself.
+//! of two hexadecimal digits, `\#` the number of the time from 0, `\+` the same from 1, and `\\` a
+//! `\`. No line break follows by itself.
 #![tactic(auto)]
 
 mod repeated;

@@ -24,6 +24,12 @@ fn digit(byte: u8) -> u8 {
     }
 }
 
+/// Appends a number in digits.
+fn append_number(alloc: Global, file: &mut Vec<u8>, number: u64) -> Result<(), AllocError> {
+    let text = number.to_string(alloc)?;
+    file.extend_from_slice(text.as_bytes())
+}
+
 /// Appends what the byte behind `\` means.
 fn append_escaped(
     alloc: Global,
@@ -33,10 +39,8 @@ fn append_escaped(
 ) -> Result<(), AllocError> {
     match byte {
         b'n' => file.push(b'\n')?,
-        b'#' => {
-            let text = number.to_string(alloc)?;
-            file.extend_from_slice(text.as_bytes())?;
-        }
+        b'#' => append_number(alloc, file, u64::from(number))?,
+        b'+' => append_number(alloc, file, u64::from(number) + 1)?,
         _ => file.push(byte)?,
     }
     Ok(())

@@ -1,5 +1,5 @@
 -- The definitions, computed on the example: its outcomes and lengths as they come out by hand.
-use Rattle.std.proofs.Common.{◌≡◌, ℕ, List, [], ◌∷◌, length, Some, None, refl}
+use Rattle.std.proofs.Common.{◌≡◌, ℕ, List, [], ◌∷◌, length, Some, refl}
 use Rattle.am_base.specs.declared.word.BinOp.TheVariants.{Sub}
 use Rattle.am_base.specs.declared.outcome.Ending.TheVariants.{Return, Budget}
 use Rattle.am_base.specs.declared.outcome.Outcome.{Outcome}
@@ -14,7 +14,7 @@ use Rattle.worked_example.specs.Codes.{case_of}
 
 -- mutant 1 has `sub` in the place of `add`
 table : Table
-table = record { chosen = None ∷ Some (0, 1) ∷ []; mentioned = (first_instr Sub ∷ []) ∷ [] }
+table = record { chosen = [] ∷ ((0, 1) ∷ []) ∷ []; mentioned = (first_instr Sub ∷ []) ∷ [] }
 
 module _ (memory : List ℕ) where
   abbrev run : ℕ → ℕ → ℕ → Trial State Change

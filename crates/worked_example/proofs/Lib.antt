@@ -1,2 +1,3 @@
 mod ExampleRows
 mod WorkedExample
+mod Several

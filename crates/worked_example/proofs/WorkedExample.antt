@@ -1,5 +1,5 @@
 -- The worked example of docs/EXAMPLE.md, computed from the definitions: the unchanged program and two mutants on the arguments 2 and 2.
-use Rattle.std.proofs.Common.{◌≡◌, ℕ, List, [], ◌∷◌, Some, None, refl}
+use Rattle.std.proofs.Common.{◌≡◌, ℕ, List, [], ◌∷◌, refl}
 use Rattle.am_base.specs.declared.word.Width.TheVariants.{W32}
 use Rattle.am_base.specs.declared.word.BinOp.TheVariants.{Sub}
 use Rattle.am_base.specs.declared.word.Pred.TheVariants.{Sgt}
@@ -19,7 +19,7 @@ use Rattle.worked_example.specs.Codes.{case_of}
 -- mutant 1 subtracts in the place of `add`, and mutant 2 compares with 3 in the place of 10
 table : Table
 table = record {
-  chosen = None ∷ Some (0, 1) ∷ Some (1, 1) ∷ [];
+  chosen = [] ∷ ((0, 1) ∷ []) ∷ ((1, 1) ∷ []) ∷ [];
   mentioned = (first_instr Sub ∷ []) ∷ (Cmp Sgt W32 (Reg 2) (Word 3) ∷ []) ∷ [];
 }
 

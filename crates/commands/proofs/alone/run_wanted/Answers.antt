@@ -1,5 +1,6 @@
 use Rattle.std.proofs.Common.{◌≡◌, ◌<◌, ◌≤◌, ℕ, ◌+◌, length, None, Some, Err, subst, sym, arith}
 use Rattle.code_form.specs.Fit.{FitsCase}
+use Rattle.mutant_records.specs.Lists.{last_mutant}
 use Rattle.test_suite.specs.declared.suite.Test.{Test}
 use Rattle.ports.specs.Asks.{answers_in, asked_in}
 use Rattle.command_plan.specs.Answer.{Found}

@@ -10,6 +10,8 @@ use Rattle.exec_core.proofs.Holding.{same_counts}
 use Rattle.exec_core.specs.Counted.{totals}
 use Rattle.exec_core.specs.Engines.{split_seen}
 use Rattle.exec_core.specs.Plans.{KnowsTable}
+use Rattle.flat_machine.specs.Taken.{taken}
+use Rattle.flat_machine.specs.TakenLaws.{taken_distinct}
 use Rattle.flat_analysis.specs.Ended.{AreEnded}
 use Rattle.flat_analysis.proofs.CaseLemmas.{at_start, are_ended, classes_differ, none_after, none_after_refusal, rose_at_start, within_at_start, within_same, risen_by_nothing, at_most_same, stays_on}
 use Rattle.flat_analysis.proofs.case.analyse_over.Goals as goal
@@ -32,9 +34,9 @@ give_out-requires-clause-out g c =
 
 pub give_out-requires-clause-distinct : goal.give_out-requires-clause-distinct
 give_out-requires-clause-distinct g c =
-    let n = c.in_ok-start.start.number in let one = c.start.new.self.numbers.out.items in
+    let n = c.in_ok-start.start.number in let one = taken c.start.new.self.numbers.marks.items in
     let started : IsPermutation (n ∷ []) one = subst (λ (xs : List ℕ). IsPermutation (n ∷ xs) one) c.requires.none_out c.in_ok-start.ensures.out_numbers in
-    classes_differ n one c.analyse.new.machine.numbers.out.items _ started c.in_ok-analysis.ensures.out_numbers c.analyse.new.machine.numbers.distinct
+    classes_differ n one (taken c.analyse.new.machine.numbers.marks.items) _ started c.in_ok-analysis.ensures.out_numbers (taken_distinct c.analyse.new.machine.numbers.marks.items)
 
 pub returns-clause-classes : goal.returns-clause-classes
 returns-clause-classes g c =
@@ -78,9 +80,9 @@ returns-clause-meter_within g c =
 
 pub returns-clause-none_out : goal.returns-clause-none_out
 returns-clause-none_out g c =
-    let n = c.in_ok-start.start.number in let one = c.start.new.self.numbers.out.items in
+    let n = c.in_ok-start.start.number in let one = taken c.start.new.self.numbers.marks.items in
     let started : IsPermutation (n ∷ []) one = subst (λ (xs : List ℕ). IsPermutation (n ∷ xs) one) c.requires.none_out c.in_ok-start.ensures.out_numbers in
-    none_after n one c.analyse.new.machine.numbers.out.items _ c.give_out.new.machine.numbers.out.items started c.in_ok-analysis.ensures.out_numbers c.in_ok-ended.ensures.out_numbers
+    none_after n one (taken c.analyse.new.machine.numbers.marks.items) _ (taken c.give_out.new.machine.numbers.marks.items) started c.in_ok-analysis.ensures.out_numbers c.in_ok-ended.ensures.out_numbers
 
 pub returns-clause-stays : goal.returns-clause-stays
 returns-clause-stays g c =
@@ -96,9 +98,9 @@ returns-in_err-ended-clause-meter_within g c =
 
 pub returns-in_err-ended-clause-none_out : goal.returns-in_err-ended-clause-none_out
 returns-in_err-ended-clause-none_out g c =
-    let n = c.in_ok-start.start.number in let one = c.start.new.self.numbers.out.items in
+    let n = c.in_ok-start.start.number in let one = taken c.start.new.self.numbers.marks.items in
     let started : IsPermutation (n ∷ []) one = subst (λ (xs : List ℕ). IsPermutation (n ∷ xs) one) c.requires.none_out c.in_ok-start.ensures.out_numbers in
-    none_after n one c.analyse.new.machine.numbers.out.items _ c.give_out.new.machine.numbers.out.items started c.in_ok-analysis.ensures.out_numbers c.in_err-ended.ensures.out_numbers
+    none_after n one (taken c.analyse.new.machine.numbers.marks.items) _ (taken c.give_out.new.machine.numbers.marks.items) started c.in_ok-analysis.ensures.out_numbers c.in_err-ended.ensures.out_numbers
 
 pub returns-in_err-ended-clause-stays : goal.returns-in_err-ended-clause-stays
 returns-in_err-ended-clause-stays g c =
@@ -114,9 +116,9 @@ returns-in_err-analysis-clause-meter_within g c =
 
 pub returns-in_err-analysis-clause-none_out : goal.returns-in_err-analysis-clause-none_out
 returns-in_err-analysis-clause-none_out g c =
-    let n = c.in_ok-start.start.number in let one = c.start.new.self.numbers.out.items in
+    let n = c.in_ok-start.start.number in let one = taken c.start.new.self.numbers.marks.items in
     let started : IsPermutation (n ∷ []) one = subst (λ (xs : List ℕ). IsPermutation (n ∷ xs) one) c.requires.none_out c.in_ok-start.ensures.out_numbers in
-    none_after_refusal n one c.analyse.new.machine.numbers.out.items started c.in_err-analysis.ensures.err
+    none_after_refusal n one (taken c.analyse.new.machine.numbers.marks.items) started c.in_err-analysis.ensures.err
 
 pub returns-in_err-analysis-clause-stays : goal.returns-in_err-analysis-clause-stays
 returns-in_err-analysis-clause-stays g c =
