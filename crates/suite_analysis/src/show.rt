@@ -35,6 +35,7 @@ fn splits_shown(splits: &[Items<Split>], with_splits: bool) -> Option<&[Items<Sp
 
 /// The smaller suite of a matrix, and the least mutant that subsumes each killed one.
 fn reduced_of(alloc: Global, suite: &Suite, matrix: &Matrix) -> Result<Vec<u8>, OutOfMemory>
+    requires { length matrix.now.tests ≡ length suite.now.tests }
     ensures { IfOk result (λ text. IsReduced suite.now matrix.now text.items) }
 {
     let mutants = matrix.mutants();
