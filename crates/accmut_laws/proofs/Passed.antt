@@ -15,7 +15,7 @@ use Rattle.suite_analysis.specs.Runs.{suite_steps, suite_asks}
 use Rattle.refused_lines.specs.Refusals.{no_mutant_line, no_test_line}
 use Rattle.command_words.specs.Words.{Text}
 use Rattle.command_words.specs.declared.command.Command.{Command}
-use Rattle.command_words.specs.declared.command.Command.TheVariants.{Run, Check, Make, Alone, Groups, Load}
+use Rattle.command_words.specs.declared.command.Command.TheVariants.{Run, Check, Make, Alone, Groups, Reduce, Load}
 use Rattle.command_plan.specs.declared.status.Input.{Input}
 use Rattle.command_plan.specs.declared.status.Input.TheVariants as input
 use Rattle.command_plan.specs.Ends.{Ends, Accepted}
@@ -99,6 +99,8 @@ module _ (signs : List PortSign) (answers : List (List ℕ → Option ℕ)) wher
       let write : Test → Plan = (λ t. Write (AreGroups m.code all A step t) (IsGroupsRise m.code all A step t)) in
       want_rise input.Tests (no_test_line test) Test (test_numbered suite.tests test) write
       (λ t. groups_rise m.code all (accepted_order signs m list all are) A step t)
+  plan_rise (Reduce files budget order) = λ file m is list all are tests suite fit.
+      suite_rise m.code all (accepted_order signs m list all are) (answers_in answers) suite
   plan_rise (Load number) = λ file m is list all are tests suite fit.
       suite_rise m.code all (accepted_order [] m list all are) (answers_in []) suite
 

@@ -11,6 +11,8 @@ these words are commands:
       [--budget N]
   groups MODULE MUTANTS TESTS T N       which mutants are still together on test T after N changes
       [--budget N] [--order depth|breadth|smallest]
+  reduce MODULE MUTANTS TESTS           fewer tests that notice the same mutants
+      [--budget N] [--order depth|breadth|smallest]
   load N                                a built-in workload
 MODULE, MUTANTS and TESTS are files; docs/FORMATS.md says what is in them. `--budget` is the number of
 changes after which a test that states none is cut off.";
@@ -53,7 +55,7 @@ impl Program {
 /// Whether a command's name is known.
 fn is_command(program: Program, word: &str) -> bool {
     match program {
-        Program::Accmut => matches!(word, "check" | "make" | "run" | "alone" | "groups" | "load"),
+        Program::Accmut => matches!(word, "check" | "make" | "run" | "alone" | "groups" | "reduce" | "load"),
         Program::View => matches!(word, "number" | "page"),
     }
 }

@@ -1,1 +1,2 @@
 pub mod Tolls
+pub mod Visits

@@ -3,7 +3,9 @@
 
 mod done;
 mod letters;
+mod show;
 mod suite;
 
 pub use done::Done;
+pub use show::Show;
 pub use suite::{analyse_suite, report_of};

@@ -11,11 +11,13 @@ ghost use Rattle.traces.specs.Work.{steps, asks};
 ghost use Rattle.traces.specs.Counts.{IsBetween};
 ghost use Rattle.ports.specs.Asks.{answers_in, asked_in, AskedBy, AskedAtMostBy};
 ghost use Rattle.test_suite.specs.Suite.{FitsSuite};
-ghost use Rattle.work_report.specs.Report.{FitsWords, total_of, shown_text};
+ghost use Rattle.work_report.specs.Report.{FitsWords, total_of};
 ghost use Rattle.suite_analysis.specs.Parts.{AreDone};
+ghost use Rattle.suite_analysis.specs.Shown.{IsShown};
 ghost use Rattle.suite_analysis.specs.Runs.{trial_on, suite_steps, suite_asks, IsReport};
 
 use crate::done::{Done, add, no_tests};
+use crate::show::{Show, shown};
 use am_base::OutOfMemory;
 use am_lists::Items;
 use code_form::{Code, Variants};
@@ -25,7 +27,6 @@ use flat_machine::Ports;
 use picker::Picker;
 use std::alloc::Global;
 use test_suite::{Suite, Test};
-use work_report::{Show, shown};
 
 /// Analyses one more test, and gives the ports back, whatever it answers.
 fn run_test<'a, P: Ports>(
@@ -164,7 +165,7 @@ fn text_of(alloc: Global, suite: &Suite, done: &Done, show: Show) -> Result<Vec<
     requires works { length done.now.works.items ≡ length suite.now.tests }
     requires splits { length done.now.splits.items ≡ length suite.now.tests }
     requires sums { FitsWords (total_of done.now.works.items) }
-    ensures { IfOk result (λ text. text.items ≡ shown_text show suite.now done.now.matrix done.now.works.items done.now.splits.items) }
+    ensures { IfOk result (λ text. IsShown show suite.now done.now.matrix done.now.works.items done.now.splits.items text.items) }
 {
     let works = done.works.as_slice();
     shown(
