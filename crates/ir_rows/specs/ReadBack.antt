@@ -9,8 +9,8 @@ use Rattle.ir_grammar.specs.Lexeme.{lexemes}
 use Rattle.ir_grammar.specs.Modules.{IsUnread}
 use Rattle.ir_text.specs.Lines.{canon}
 use Rattle.ir_text.specs.Texts.{IsTextOf}
-use Rattle.ir_tests.specs.declared.again.ReadBackError.{ReadBackError}
-use Rattle.ir_tests.specs.declared.again.ReadBackError.TheVariants as error
+use Rattle.ir_rows.specs.declared.again.ReadBackError.{ReadBackError}
+use Rattle.ir_rows.specs.declared.again.ReadBackError.TheVariants as error
 
 -- Why no module is read from a text: its first fault, or the first of its tokens that isn't read. Want of memory may come at any text.
 abbrev pub IsUnreadable : Text → ReadBackError → Type 0

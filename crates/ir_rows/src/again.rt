@@ -1,5 +1,5 @@
 //! A module is read from a text, printed, and read again from what was printed.
-ghost use Rattle.ir_tests.specs.ReadBack.{IsNotReadBack, IsUnreadable, IsWant};
+ghost use Rattle.ir_rows.specs.ReadBack.{IsNotReadBack, IsUnreadable, IsWant};
 ghost use Rattle.ir_text.specs.Lines.{canon};
 ghost use Rattle.ir_text.specs.Texts.{IsTextOf};
 ghost use Rattle.ir_tokens.specs.Tokens.{HasTokens};
@@ -29,7 +29,7 @@ pub enum ReadBackError {
 }
 
 impl From<OutOfMemory> for ReadBackError {
-    ghost use Rattle.ir_tests.specs.declared.again.ReadBackError.TheVariants.{OutOfMemory};
+    ghost use Rattle.ir_rows.specs.declared.again.ReadBackError.TheVariants.{OutOfMemory};
     ghost use Rattle.std.specs.Prelude.{◌≡◌};
 
     ghost from_gives = { λ _ e. e ≡ OutOfMemory };
@@ -47,18 +47,29 @@ pub struct ReadBack {
     pub again: Module,
 }
 
-fn module_of_tokens(alloc: Global, text: &[u8], tokens: &[Token]) -> Result<Module, ReadBackError>
+fn reading_of_tokens(alloc: Global, text: &[u8], tokens: &[Token]) -> Result<Reading, ReadBackError>
     requires { HasTokens text.now tokens.now }
-    ensures module { IfOk result (λ m. IsTextOf text.now m.items) }
+    ensures module { IfOk result (λ r. IsTextOf text.now r.module.items) }
     ensures refused { IfErr result (IsUnreadable text.now) }
 {
     match read(alloc, text, tokens) {
-        Ok(reading) => {
-            let Reading { module, starts: _ } = reading;
-            Ok(module)
-        }
+        Ok(reading) => Ok(reading),
         Err(ReadError::NotAnItem { token }) => Err(ReadBackError::NoItem { token }),
         Err(ReadError::OutOfMemory) => Err(ReadBackError::OutOfMemory),
+    }
+}
+
+/// Reads a module from a text, with the first token of each item.
+pub fn reading_of(alloc: Global, text: &[u8]) -> Result<Reading, ReadBackError>
+    requires { length text.now ≤ MAX_FILE_BYTES }
+    ensures module { IfOk result (λ r. IsTextOf text.now r.module.items) }
+    ensures refused { IfErr result (IsUnreadable text.now) }
+{
+    match lex(alloc, text) {
+        Ok(tokens) => reading_of_tokens(alloc, text, tokens.as_slice()),
+        Err(LexError::BadByte { at }) => Err(ReadBackError::NoToken { at }),
+        Err(LexError::OpenQuote { at }) => Err(ReadBackError::NoToken { at }),
+        Err(LexError::OutOfMemory) => Err(ReadBackError::OutOfMemory),
     }
 }
 
@@ -67,11 +78,12 @@ fn module_of(alloc: Global, text: &[u8]) -> Result<Module, ReadBackError>
     ensures module { IfOk result (λ m. IsTextOf text.now m.items) }
     ensures refused { IfErr result (IsUnreadable text.now) }
 {
-    match lex(alloc, text) {
-        Ok(tokens) => module_of_tokens(alloc, text, tokens.as_slice()),
-        Err(LexError::BadByte { at }) => Err(ReadBackError::NoToken { at }),
-        Err(LexError::OpenQuote { at }) => Err(ReadBackError::NoToken { at }),
-        Err(LexError::OutOfMemory) => Err(ReadBackError::OutOfMemory),
+    match reading_of(alloc, text) {
+        Ok(reading) => {
+            let Reading { module, starts: _ } = reading;
+            Ok(module)
+        }
+        Err(refused) => Err(refused),
     }
 }
 

@@ -8,9 +8,9 @@ use Rattle.ir_grammar.specs.Lexeme.{lexemes}
 use Rattle.ir_grammar.specs.Modules.{IsModule}
 use Rattle.ir_grammar.proofs.ModuleLemmas.{either-one}
 use Rattle.ir_text.specs.Texts.{AreBytes, IsTextOf}
-use Rattle.ir_tests.specs.ReadBack.{IsUnreadable, IsWant}
-use Rattle.ir_tests.specs.declared.again.ReadBackError.{ReadBackError}
-use Rattle.ir_tests.specs.declared.again.ReadBackError.TheVariants as error
+use Rattle.ir_rows.specs.ReadBack.{IsUnreadable, IsWant}
+use Rattle.ir_rows.specs.declared.again.ReadBackError.{ReadBackError}
+use Rattle.ir_rows.specs.declared.again.ReadBackError.TheVariants as error
 
 pub are_bytes : (text : Text) → ((k : ℕ) → get_or text k 0 < 256) → AreBytes text
 are_bytes [] h = refl

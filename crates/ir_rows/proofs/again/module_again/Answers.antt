@@ -1,8 +1,8 @@
 use Rattle.std.proofs.Common.{List, ℕ, arith, subst, sym}
 use Rattle.ir_tokens.specs.Bytes.{Text}
 use Rattle.ir_text.specs.Texts.{IsTextOf}
-use Rattle.ir_tests.proofs.Readable.{are_bytes, readable}
-use Rattle.ir_tests.proofs.again.module_again.Goals as goal
+use Rattle.ir_rows.proofs.Readable.{are_bytes, readable}
+use Rattle.ir_rows.proofs.again.module_again.Goals as goal
 
 pub want_of_memory-requires : goal.want_of_memory-requires
 want_of_memory-requires c =
