@@ -16,21 +16,9 @@ mod devices;
 mod shown;
 
 use call::Commands;
-use row_scripts::play;
-use std::rt::{Env, Files};
-use std::{env, fs, io};
-
-fn try_scripts<R: Env + Files + Print + AllocGlobal>(rt: &R) -> io::Result<()> {
-    for name in env::args(rt)?.skip(1) {
-        let script = fs::read_to_string(rt, name.as_str())?;
-        let tally = play(rt, &mut Commands, script.as_str())?;
-        let rows = tally.rows;
-        let wrong = tally.wrong;
-        println!(rt; "{name}: {rows} rows, {wrong} wrong")?;
-    }
-    Ok(())
-}
+use row_scripts::play_all;
+use std::io;
 
 fn main(rt: HostRuntime) -> io::Result<()> {
-    try_scripts(&rt)
+    play_all(&rt, &mut Commands)
 }

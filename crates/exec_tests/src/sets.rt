@@ -21,12 +21,18 @@ fn replaced(alloc: Global, code: &Code) -> Result<Variants, OutOfMemory>
     Ok(table)
 }
 
+fn table_of_five(alloc: Global) -> Result<Variants, OutOfMemory>
+    ensures { IfOk result (λ table. (m : ℕ) → variant_of table m 0 ≤ 2) }
+{
+    let code = plain_code(alloc, 1)?;
+    replaced(alloc, &code)
+}
+
 /// The parts of these five mutants by the classes of the variants 0, 1 and 2 at place 0.
 fn parts_of_five(alloc: Global, class_of: &[u32]) -> Result<Items<Members>, OutOfMemory>
     requires { length class_of.now ≡ 3 }
 {
-    let code = plain_code(alloc, 1)?;
-    let table = replaced(alloc, &code)?;
+    let table = table_of_five(alloc)?;
     let members = Members::all(alloc, 5)?;
     members.split_by(alloc, &table, Place(0), class_of)
 }
@@ -44,12 +50,18 @@ fn replaced_far(alloc: Global, code: &Code) -> Result<Variants, OutOfMemory>
     Ok(table)
 }
 
+fn table_of_many(alloc: Global) -> Result<Variants, OutOfMemory>
+    ensures { IfOk result (λ table. (m : ℕ) → variant_of table m 0 ≤ 3) }
+{
+    let code = plain_code(alloc, 1)?;
+    replaced_far(alloc, &code)
+}
+
 /// The parts of these 4,096 mutants by the classes of the variants 0, 1 and 2 at place 0, of four.
 fn parts_of_many(alloc: Global, class_of: &[u32]) -> Result<Items<Members>, OutOfMemory>
     requires { length class_of.now ≡ 4 }
 {
-    let code = plain_code(alloc, 1)?;
-    let table = replaced_far(alloc, &code)?;
+    let table = table_of_many(alloc)?;
     let members = Members::all(alloc, 4096)?;
     members.split_by(alloc, &table, Place(0), class_of)
 }
@@ -82,39 +94,75 @@ fn has_part(parts: &Items<Members>, at: usize, numbers: &[u32]) -> bool {
     }
 }
 
-#[test]
-fn all_members(rt: HostRuntime) -> Result<(), Fail> {
-    let members = Members::all(rt.alloc(), 5)?;
-    assert_eq!(rt;
-        members.list(rt.alloc())?.as_slice(),
-        [0, 1, 2, 3, 4].as_slice()
-    );
-    assert_eq!(rt; (members.least(), members.len()), (0, 5));
-    assert_eq!(rt; (members.has(4), members.has(5)), (true, false));
-    Ok(())
+/// Whether all calls on the set of 0 to 4 tell this.
+fn is_five(alloc: Global) -> Result<bool, OutOfMemory> {
+    let members = Members::all(alloc, 5)?;
+    let list = members.list(alloc)?;
+    Ok(
+        list.as_slice() == [0, 1, 2, 3, 4].as_slice()
+            && (members.least(), members.len()) == (0, 5)
+            && (members.has(4), members.has(5)) == (true, false),
+    )
+}
+
+/// Whether five mutants have two parts where both replacements have one class, and three where each
+/// has its own.
+fn parts_five(alloc: Global) -> Result<bool, OutOfMemory> {
+    let two = parts_of_five(alloc, &[7, 3, 3])?;
+    let three = parts_of_five(alloc, &[7, 3, 9])?;
+    Ok(
+        two.len() == 2
+            && has_part(&two, 0, &[0, 2, 4])
+            && has_part(&two, 1, &[1, 3])
+            && three.len() == 3
+            && has_part(&three, 0, &[0, 2, 4])
+            && has_part(&three, 1, &[1])
+            && has_part(&three, 2, &[3]),
+    )
+}
+
+/// Whether this is the part of the originals among the 4,096 mutants where each replacement has a
+/// class of its own.
+fn is_rest(rest: &Members) -> bool {
+    (rest.least(), rest.len()) == (0, 4093)
+        && (rest.has(1), rest.has(2), rest.has(4000)) == (false, true, false)
+        && (rest.index_of(2), rest.index_of(3)) == (Some(1), None)
+        && (rest.index_of(4001), rest.index_of(4095)) == (Some(3998), Some(4092))
+}
+
+/// Whether the 4,096 mutants have three parts where each replacement has a class of its own.
+fn parts_in_three(alloc: Global) -> Result<bool, OutOfMemory> {
+    let parts = parts_of_many(alloc, &[7, 3, 9, 0])?;
+    let is_first = match parts.get(0) {
+        Some(rest) => is_rest(rest),
+        None => false,
+    };
+    Ok(is_first && parts.len() == 3 && has_part(&parts, 1, &[1, 4000]) && has_part(&parts, 2, &[3]))
+}
+
+/// Whether they have two where mutant 3's has that of the originals.
+fn parts_in_two(alloc: Global) -> Result<bool, OutOfMemory> {
+    let parts = parts_of_many(alloc, &[5, 3, 5, 0])?;
+    let is_first = match parts.get(0) {
+        Some(rest) => (rest.least(), rest.len(), rest.has(3)) == (0, 4094, true),
+        None => false,
+    };
+    Ok(is_first && parts.len() == 2 && has_part(&parts, 1, &[1, 4000]))
 }
 
 #[test]
-fn parts_where_both_replacements_have_one_class(rt: HostRuntime) -> Result<(), Fail> {
-    let parts = parts_of_five(rt.alloc(), &[7, 3, 3])?;
-    assert_eq!(rt; parts.len(), 2);
-    assert!(rt; has_part(&parts, 0, &[0, 2, 4]));
-    assert!(rt; has_part(&parts, 1, &[1, 3]));
+fn sets_and_their_parts(rt: HostRuntime) -> Result<(), Fail> {
+    let alloc = rt.alloc();
+    assert!(rt; is_five(alloc)?);
+    assert!(rt; parts_five(alloc)?);
+    assert!(rt; parts_in_three(alloc)?);
+    assert!(rt; parts_in_two(alloc)?);
     Ok(())
 }
 
+/// Below whole words, at whole words and past them.
 #[test]
-fn parts_where_each_replacement_has_its_own_class(rt: HostRuntime) -> Result<(), Fail> {
-    let parts = parts_of_five(rt.alloc(), &[7, 3, 9])?;
-    assert_eq!(rt; parts.len(), 3);
-    assert!(rt; has_part(&parts, 0, &[0, 2, 4]));
-    assert!(rt; has_part(&parts, 1, &[1]));
-    assert!(rt; has_part(&parts, 2, &[3]));
-    Ok(())
-}
-
-#[test]
-fn sets_below_and_past_whole_words(rt: HostRuntime) -> Result<(), Fail> {
+fn whole_sets(rt: HostRuntime) -> Result<(), Fail> {
     let alloc = rt.alloc();
     assert!(rt; is_whole(alloc, 1)?);
     assert!(rt; is_whole(alloc, 63)?);
@@ -122,39 +170,5 @@ fn sets_below_and_past_whole_words(rt: HostRuntime) -> Result<(), Fail> {
     assert!(rt; is_whole(alloc, 65)?);
     assert!(rt; is_whole(alloc, 4096)?);
     assert!(rt; is_whole(alloc, 65536)?);
-    Ok(())
-}
-
-#[test]
-fn parts_of_a_large_set(rt: HostRuntime) -> Result<(), Fail> {
-    let parts = parts_of_many(rt.alloc(), &[7, 3, 9, 0])?;
-    assert_eq!(rt; parts.len(), 3);
-    assert!(rt; has_part(&parts, 1, &[1, 4000]));
-    assert!(rt; has_part(&parts, 2, &[3]));
-    let Some(rest) = parts.get(0) else {
-        return Err("no part".into());
-    };
-    assert_eq!(rt; (rest.least(), rest.len()), (0, 4093));
-    assert_eq!(rt;
-        (rest.has(1), rest.has(2), rest.has(4000)),
-        (false, true, false)
-    );
-    assert_eq!(rt; (rest.index_of(2), rest.index_of(3)), (Some(1), None));
-    assert_eq!(rt;
-        (rest.index_of(4001), rest.index_of(4095)),
-        (Some(3998), Some(4092))
-    );
-    Ok(())
-}
-
-#[test]
-fn parts_of_a_large_set_by_two_classes(rt: HostRuntime) -> Result<(), Fail> {
-    let parts = parts_of_many(rt.alloc(), &[5, 3, 5, 0])?;
-    assert_eq!(rt; parts.len(), 2);
-    assert!(rt; has_part(&parts, 1, &[1, 4000]));
-    let Some(rest) = parts.get(0) else {
-        return Err("no part".into());
-    };
-    assert_eq!(rt; (rest.least(), rest.len(), rest.has(3)), (0, 4094, true));
     Ok(())
 }

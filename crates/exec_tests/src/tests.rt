@@ -241,6 +241,12 @@ fn has_split(trial: &Trial, at: usize, step: u64, parts: &[u32]) -> bool {
     }
 }
 
+/// The table of the worked example.
+fn example_table(alloc: Global) -> Result<Variants, OutOfMemory> {
+    let code = plain_code(alloc, 3)?;
+    five_mutants(alloc, &code)
+}
+
 /// The worked example: the gains 1, 8, 2 and the five mutants.
 fn run_example(
     alloc: Global,
@@ -249,36 +255,119 @@ fn run_example(
 ) -> Result<Trial, OutOfMemory>
     requires { budget ≤ 10000000 }
 {
-    let code = plain_code(alloc, 3)?;
-    let table = five_mutants(alloc, &code)?;
+    let table = example_table(alloc)?;
     run_toy(alloc, [1, 8, 2].to_vec(alloc)?, &table, budget, picker)
+}
+
+fn thousand_table(alloc: Global) -> Result<Variants, OutOfMemory> {
+    let code = plain_code(alloc, 1000)?;
+    thousand_mutants(alloc, &code)
 }
 
 /// 1,000 mutants over 1,000 gains.
 fn run_thousand(alloc: Global, picker: &mut Box<dyn Picker>) -> Result<Trial, OutOfMemory> {
-    let code = plain_code(alloc, 1000)?;
-    let table = thousand_mutants(alloc, &code)?;
+    let table = thousand_table(alloc)?;
     run_toy(alloc, late_gains(alloc, 1000, 900)?, &table, 1000, picker)
+}
+
+fn seven_table(alloc: Global) -> Result<Variants, OutOfMemory> {
+    let code = plain_code(alloc, 143)?;
+    seven_a_place(alloc, &code)
 }
 
 /// 1,002 mutants over 143 gains of 1.
 fn run_seven(alloc: Global, picker: &mut Box<dyn Picker>) -> Result<Trial, OutOfMemory> {
-    let code = plain_code(alloc, 143)?;
-    let table = seven_a_place(alloc, &code)?;
+    let table = seven_table(alloc)?;
     run_toy(alloc, late_gains(alloc, 143, 0)?, &table, 1000, picker)
+}
+
+/// The numbers of a trial: steps, alone, tries and executions; variants tried, changes applied, their
+/// weights and asks; steps metered, classes and splits.
+type Numbers = (
+    (u64, u64, u64, u64),
+    (u64, u64, u64, u64),
+    (u64, usize, usize),
+);
+
+fn has_numbers(trial: &Trial, want: Numbers) -> bool {
+    let work = trial.work;
+    (work.steps, work.alone, work.tries, work.executions) == want.0
+        && (trial.tried, trial.applied, trial.weighed, trial.asked) == want.1
+        && (trial.metered, trial.classes.len(), trial.splits.len()) == want.2
 }
 
 /// Whether this is what the worked example comes to within a budget of 3.
 fn is_within_three(trial: &Trial) -> bool {
-    let work = trial.work;
-    (work.steps, work.alone, work.tries, work.executions) == (7, 15, 8, 3)
-        && (trial.tried, trial.applied, trial.weighed, trial.asked) == (8, 7, 5, 3)
-        && (trial.metered, trial.classes.len(), trial.splits.len()) == (7, 3, 2)
+    has_numbers(trial, ((7, 15, 8, 3), (8, 7, 5, 3), (7, 3, 2)))
         && has_class(trial, 0, &[0, 2], 3)
         && has_class(trial, 1, &[1], 3)
         && has_class(trial, 2, &[3, 4], 3)
         && has_split(trial, 0, 0, &[0, 1])
         && has_split(trial, 1, 2, &[0, 3])
+}
+
+/// Whether this is what the worked example comes to within a budget of 2.
+fn is_within_two(trial: &Trial) -> bool {
+    has_numbers(trial, ((4, 10, 5, 2), (5, 4, 2, 2), (4, 2, 1)))
+        && has_class(trial, 0, &[0, 2, 3, 4], 2)
+        && has_class(trial, 1, &[1], 2)
+        && has_split(trial, 0, 0, &[0, 1])
+}
+
+/// Whether this is what a thousand mutants come to. A replacement at a place with a gain of 8 makes
+/// the change of the original, so mutants 0 to 899 stay together: 1,000 steps. Mutant m from 900 on
+/// parts at place m and makes 1,000 - m changes of its own, each of them 1: 5,050 more. At each
+/// place from 1 on mutant 0's execution tries two variants, and the others try one a step:
+/// 1 + 1,998 + 4,950. Variant 1 is tried 999 times.
+fn is_of_thousand(trial: &Trial) -> bool {
+    let counts = (6_949, 6_050, 5_050, 999);
+    has_numbers(
+        trial,
+        ((6_050, 1_000_000, 6_949, 101), counts, (6_050, 101, 100)),
+    ) && has_class(trial, 1, &[900], 1000)
+        && has_class(trial, 100, &[999], 1000)
+        && has_split(trial, 0, 900, &[0, 900])
+        && has_split(trial, 99, 999, &[0, 999])
+}
+
+/// Whether each class has the mutant of its number alone.
+fn are_single(trial: &Trial, len: u64) -> bool {
+    trial.classes.iter().enumerate().all(|(at, (members, steps))| {
+        *steps == len && members.len() == 1 && members.least() as usize == at
+    })
+}
+
+/// Whether this is what 1,002 mutants come to. Seven mutants of each place p part there from mutant
+/// 0, with the changes 1 to 7, and repeat them: 143 - p steps each, 143 + 7 * 10,296 in all, that
+/// weigh 28 * 10,296. Mutant 0 tries eight variants at each place, four of them odd, and each other
+/// mutant one a step from the next place on: 8 * 143 + 7 * 10,153.
+fn is_of_seven(trial: &Trial) -> bool {
+    let counts = (72_215, 72_215, 288_288, 572);
+    has_numbers(
+        trial,
+        (
+            (72_215, 143_286, 72_215, 1_002),
+            counts,
+            (72_215, 1_002, 143),
+        ),
+    ) && are_single(trial, 143)
+        && has_split(trial, 0, 0, &[0, 1, 2, 3, 4, 5, 6, 7])
+        && has_split(trial, 142, 142, &[0, 995, 996, 997, 998, 999, 1000, 1001])
+}
+
+/// Whether this is what the machine comes to that writes three numbers. Mutant 0 writes 0, 0, 0,
+/// mutant 1 writes 1, 1, 1, and mutant 2 writes 0, 0, 1. Two variants are tried at the first place
+/// and by the execution of 0 and 2 at the last, else one.
+fn is_of_tape(trial: &Trial, written: &[Vec<u64>]) -> bool {
+    has_numbers(trial, ((7, 9, 7, 3), (7, 7, 0, 0), (7, 3, 2)))
+        && has_class(trial, 0, &[0], 3)
+        && has_class(trial, 1, &[1], 3)
+        && has_class(trial, 2, &[2], 3)
+        && has_split(trial, 0, 0, &[0, 1])
+        && has_split(trial, 1, 2, &[0, 2])
+        && has_written(written, 0, &[0, 0, 0])
+        && has_written(written, 1, &[1, 1, 1])
+        && has_written(written, 2, &[0, 0, 1])
 }
 
 /// A picker that takes the first execution each time. Its name tells whether it was asked five
@@ -307,130 +396,83 @@ impl Picker for Asked {
     }
 }
 
+/// Whether the worked example comes to what it is to within a budget of 3, by a picker.
+fn agrees_within_three(alloc: Global, picker: &mut Box<dyn Picker>) -> Result<bool, OutOfMemory> {
+    let trial = run_example(alloc, 3, picker)?;
+    Ok(is_within_three(&trial))
+}
+
+/// Whether it does by the picks of a list.
+fn agrees_by_list(alloc: Global) -> Result<bool, OutOfMemory> {
+    let picks = [1, 1, 0, 2].to_vec(alloc)?;
+    let mut listed: Box<dyn Picker> = Box::new(alloc, Listed::new(picks))?;
+    agrees_within_three(alloc, &mut listed)
+}
+
+/// Whether the picker is asked once a turn: one execution at step 0, two at 1, the first again at
+/// 2, where its parts end; the other at 1 and 2.
+fn is_asked_five_times(alloc: Global) -> Result<bool, OutOfMemory> {
+    let mut asked: Box<dyn Picker> = Box::new(alloc, Asked { times: 0 })?;
+    let agrees = agrees_within_three(alloc, &mut asked)?;
+    Ok(agrees && asked.name() == "five")
+}
+
+/// Whether the trials by depth first come to what they are to.
+fn agrees_by_depth(alloc: Global, picker: &mut Box<dyn Picker>) -> Result<bool, OutOfMemory> {
+    let is_three = agrees_within_three(alloc, picker)?;
+    let trial = run_example(alloc, 2, picker)?;
+    Ok(is_three && is_within_two(&trial))
+}
+
+/// Whether the trial of a thousand mutants comes to what it is to.
+fn agrees_on_thousand(alloc: Global, picker: &mut Box<dyn Picker>) -> Result<bool, OutOfMemory> {
+    let trial = run_thousand(alloc, picker)?;
+    Ok(is_of_thousand(&trial))
+}
+
+/// Whether it does breadth first, with the trial of a thousand mutants, and the smallest first.
+fn agrees_by_others(alloc: Global) -> Result<bool, OutOfMemory> {
+    let mut breadth: Box<dyn Picker> = Box::new(alloc, BreadthFirst::new())?;
+    let mut smallest: Box<dyn Picker> = Box::new(alloc, SmallestFirst::new())?;
+    let is_first = agrees_within_three(alloc, &mut breadth)?;
+    let is_thousand = agrees_on_thousand(alloc, &mut breadth)?;
+    Ok(agrees_within_three(alloc, &mut smallest)? && is_first && is_thousand)
+}
+
+/// Whether the trial of 1,002 mutants comes to what it is to.
+fn agrees_on_seven(alloc: Global, picker: &mut Box<dyn Picker>) -> Result<bool, OutOfMemory> {
+    let trial = run_seven(alloc, picker)?;
+    Ok(is_of_seven(&trial))
+}
+
+fn tape_table(alloc: Global) -> Result<Variants, OutOfMemory> {
+    let code = plain_code(alloc, 3)?;
+    three_mutants(alloc, &code)
+}
+
+/// Whether the trial of states that `apply` pushes onto comes to what it is to.
+fn agrees_on_tape(alloc: Global, picker: &mut Box<dyn Picker>) -> Result<bool, OutOfMemory> {
+    let table = tape_table(alloc)?;
+    let (trial, written) = run_tape(alloc, &table, picker)?;
+    Ok(is_of_tape(&trial, written.as_slice()))
+}
+
 #[test]
 fn five_mutants_in_any_order(rt: HostRuntime) -> Result<(), Fail> {
+    assert!(rt; agrees_by_others(rt.alloc())?);
+    assert!(rt; agrees_by_list(rt.alloc())?);
+    assert!(rt; is_asked_five_times(rt.alloc())?);
+    Ok(())
+}
+
+#[test]
+fn trials_by_order(rt: HostRuntime) -> Result<(), Fail> {
     let mut depth: Box<dyn Picker> = Box::new(rt.alloc(), DepthFirst::new())?;
-    assert!(rt; is_within_three(&run_example(rt.alloc(), 3, &mut depth)?));
-    let mut breadth: Box<dyn Picker> = Box::new(rt.alloc(), BreadthFirst::new())?;
-    assert!(rt; is_within_three(&run_example(rt.alloc(), 3, &mut breadth)?));
-    let mut smallest: Box<dyn Picker> = Box::new(rt.alloc(), SmallestFirst::new())?;
-    assert!(rt; is_within_three(&run_example(rt.alloc(), 3, &mut smallest)?));
-    let picks = [1, 1, 0, 2].to_vec(rt.alloc())?;
-    let mut listed: Box<dyn Picker> = Box::new(rt.alloc(), Listed::new(picks))?;
-    assert!(rt; is_within_three(&run_example(rt.alloc(), 3, &mut listed)?));
-    Ok(())
-}
-
-#[test]
-fn picker_is_asked_once_a_turn(rt: HostRuntime) -> Result<(), Fail> {
-    // One execution at step 0, two at 1, the first again at 2, where its parts end; the other at 1
-    // and 2.
-    let mut asked: Box<dyn Picker> = Box::new(rt.alloc(), Asked { times: 0 })?;
-    assert!(rt; is_within_three(&run_example(rt.alloc(), 3, &mut asked)?));
-    assert_eq!(rt; asked.name(), "five");
-    Ok(())
-}
-
-#[test]
-fn five_mutants_within_two(rt: HostRuntime) -> Result<(), Fail> {
-    let mut picker: Box<dyn Picker> = Box::new(rt.alloc(), DepthFirst::new())?;
-    let trial = run_example(rt.alloc(), 2, &mut picker)?;
-    let work = trial.work;
-    assert_eq!(rt;
-        (work.steps, work.alone, work.tries, work.executions),
-        (4, 10, 5, 2)
-    );
-    assert_eq!(rt;
-        (trial.tried, trial.applied, trial.weighed, trial.asked),
-        (5, 4, 2, 2)
-    );
-    assert_eq!(rt;
-        (trial.metered, trial.classes.len(), trial.splits.len()),
-        (4, 2, 1)
-    );
-    assert!(rt; has_class(&trial, 0, &[0, 2, 3, 4], 2));
-    assert!(rt; has_class(&trial, 1, &[1], 2));
-    assert!(rt; has_split(&trial, 0, 0, &[0, 1]));
-    Ok(())
-}
-
-#[test]
-fn thousand_mutants_within_a_thousand(rt: HostRuntime) -> Result<(), Fail> {
-    // A replacement at a place with a gain of 8 makes the change of the original, so mutants 0 to 899 stay together: 1,000 steps. Mutant m from
-    // 900 on parts at place m and makes 1,000 - m changes of its own, each of them 1: 5,050 more. At each place from 1 on mutant 0's execution
-    // tries two variants, and the others try one a step: 1 + 1,998 + 4,950. Variant 1 is tried 999 times.
-    let mut picker: Box<dyn Picker> = Box::new(rt.alloc(), BreadthFirst::new())?;
-    let trial = run_thousand(rt.alloc(), &mut picker)?;
-    let work = trial.work;
-    assert_eq!(rt;
-        (work.steps, work.alone, work.tries, work.executions),
-        (6_050, 1_000_000, 6_949, 101)
-    );
-    assert_eq!(rt;
-        (trial.tried, trial.applied, trial.weighed, trial.asked),
-        (6_949, 6_050, 5_050, 999)
-    );
-    assert_eq!(rt;
-        (trial.metered, trial.classes.len(), trial.splits.len()),
-        (6_050, 101, 100)
-    );
-    assert!(rt; has_class(&trial, 1, &[900], 1000));
-    assert!(rt; has_class(&trial, 100, &[999], 1000));
-    assert!(rt; has_split(&trial, 0, 900, &[0, 900]));
-    assert!(rt; has_split(&trial, 99, 999, &[0, 999]));
-    Ok(())
-}
-
-#[test]
-fn states_that_apply_pushes_onto(rt: HostRuntime) -> Result<(), Fail> {
-    // Mutant 0 writes 0, 0, 0, mutant 1 writes 1, 1, 1, and mutant 2 writes 0, 0, 1. Two variants
-    // are tried at the first place and by the execution of 0 and 2 at the last, else one.
-    let code = plain_code(rt.alloc(), 3)?;
-    let table = three_mutants(rt.alloc(), &code)?;
-    let mut picker: Box<dyn Picker> = Box::new(rt.alloc(), DepthFirst::new())?;
-    let (trial, written) = run_tape(rt.alloc(), &table, &mut picker)?;
-    let work = trial.work;
-    assert_eq!(rt;
-        (work.steps, work.alone, work.tries, work.executions),
-        (7, 9, 7, 3)
-    );
-    assert_eq!(rt; (trial.tried, trial.applied, trial.metered), (7, 7, 7));
-    assert!(rt; has_class(&trial, 0, &[0], 3));
-    assert!(rt; has_class(&trial, 1, &[1], 3));
-    assert!(rt; has_class(&trial, 2, &[2], 3));
-    assert!(rt; has_split(&trial, 0, 0, &[0, 1]));
-    assert!(rt; has_split(&trial, 1, 2, &[0, 2]));
-    assert!(rt; has_written(&written, 0, &[0, 0, 0]));
-    assert!(rt; has_written(&written, 1, &[1, 1, 1]));
-    assert!(rt; has_written(&written, 2, &[0, 0, 1]));
-    Ok(())
-}
-
-#[test]
-fn more_than_a_thousand_classes(rt: HostRuntime) -> Result<(), Fail> {
-    // Seven mutants of each place p part there from mutant 0, with the changes 1 to 7, and repeat
-    // them: 143 - p steps each, 143 + 7 * 10,296 in all, that weigh 28 * 10,296. Mutant 0 tries
-    // eight variants at each place, four of them odd, and each other mutant one a step from the
-    // next place on: 8 * 143 + 7 * 10,153.
-    let mut picker: Box<dyn Picker> = Box::new(rt.alloc(), DepthFirst::new())?;
-    let trial = run_seven(rt.alloc(), &mut picker)?;
-    let work = trial.work;
-    assert_eq!(rt;
-        (work.steps, work.alone, work.tries, work.executions),
-        (72_215, 143_286, 72_215, 1_002)
-    );
-    assert_eq!(rt;
-        (trial.tried, trial.applied, trial.weighed, trial.asked),
-        (72_215, 72_215, 288_288, 572)
-    );
-    assert_eq!(rt;
-        (trial.metered, trial.classes.len(), trial.splits.len()),
-        (72_215, 1_002, 143)
-    );
-    for m in 0..1002u32 {
-        assert!(rt; has_class(&trial, m as usize, &[m], 143));
-    }
-    assert!(rt; has_split(&trial, 0, 0, &[0, 1, 2, 3, 4, 5, 6, 7]));
-    assert!(rt; has_split(&trial, 142, 142, &[0, 995, 996, 997, 998, 999, 1000, 1001]));
+    let found = [
+        agrees_by_depth(rt.alloc(), &mut depth),
+        agrees_on_tape(rt.alloc(), &mut depth),
+        agrees_on_seven(rt.alloc(), &mut depth),
+    ];
+    assert_eq!(rt; found, [Ok(true); 3]);
     Ok(())
 }

@@ -11,7 +11,7 @@ use std::alloc::Global;
 use std::mem;
 
 /// What is done to an instruction.
-#[derive(Clone, Copy, Debug)]
+#[derive(Clone, Copy)]
 pub(crate) enum Change {
     /// A binary operation gets this operation.
     Operation(BinOp),
@@ -71,15 +71,22 @@ fn set_condition(op: &mut Op, value: bool)
     }
 }
 
+/// Puts a number in place of an operand.
+fn set_operand(x: &mut Opd, z: i128)
+    ensures { x.new ≡ opd.Number z }
+{
+    *x = Opd::Number(z);
+}
+
 /// Puts a number in place of one of two operands.
 fn set_one(x: &mut Opd, y: &mut Opd, k: usize, z: i128)
     ensures first { x.new ≡ (if k == 0 then opd.Number z else x.old) }
     ensures second { y.new ≡ (if k == 0 then y.old else opd.Number z) }
 {
     if k == 0 {
-        *x = Opd::Number(z);
+        set_operand(x, z);
     } else {
-        *y = Opd::Number(z);
+        set_operand(y, z);
     }
 }
 
@@ -107,8 +114,8 @@ fn set_number(alloc: Global, op: &mut Op, k: usize, z: i128) -> Result<(), OutOf
         Op::Bin(_, _, x, y) => set_one(x, y, k, z),
         Op::Cmp(_, _, x, y) => set_one(x, y, k, z),
         Op::Select(_, _, _, x, _, y) => set_one(x, y, k, z),
-        Op::Store(_, x, _, _) => *x = Opd::Number(z),
-        Op::Ret(Some(v)) => v.1 = Opd::Number(z),
+        Op::Store(_, x, _, _) => set_operand(x, z),
+        Op::Ret(Some(v)) => set_operand(&mut v.1, z),
         Op::Call(_, _, xs) => set_argument(alloc, xs, k, z)?,
         _ => {}
     }

@@ -10,7 +10,7 @@ use crate::error::MakeError;
 use crate::rows::Row;
 use crate::text::list_of;
 use crate::walk::rows_of;
-use am_base::MAX_LISTED_MUTANTS;
+use am_base::{MAX_LISTED_MUTANTS, OutOfMemory};
 use am_lists::Items;
 use code_form::{Code, Instr};
 use ir_tree::{Item, Module};
@@ -33,6 +33,20 @@ fn listed(alloc: Global, rows: &[Row]) -> Result<Vec<u8>, MakeError>
     Ok(text)
 }
 
+/// Returns the records of the mutants that are made from some items with this code, or one more than
+/// a list may have.
+fn rows_made(
+    alloc: Global,
+    items: &[Item],
+    instrs: &Items<Instr>,
+) -> Result<Items<Row>, OutOfMemory>
+    ensures { IfOk result (λ rows. rows ≡ with_all [] (made_in_items items.now instrs.now)) }
+{
+    let types = Types::of(alloc, items)?;
+    let rows = rows_of(alloc, &types, instrs, items)?;
+    Ok(rows)
+}
+
 /// Returns the list of the mutants that are made from some items with this code.
 fn list_from(alloc: Global, items: &[Item], instrs: &Items<Instr>) -> Result<Vec<u8>, MakeError>
     ensures list { IfOk result (λ text.
@@ -42,8 +56,7 @@ fn list_from(alloc: Global, items: &[Item], instrs: &Items<Instr>) -> Result<Vec
     ensures many { IfErr result (λ e. e ≡ TooMany
         → MAX_LISTED_MUTANTS < length (made_in_items items.now instrs.now)) }
 {
-    let types = Types::of(alloc, items)?;
-    let rows = rows_of(alloc, &types, instrs, items)?;
+    let rows = rows_made(alloc, items, instrs)?;
     listed(alloc, rows.as_slice())
 }
 

@@ -1,6 +1,10 @@
 //! The records that are made so far.
-ghost use Rattle.std.specs.Prelude.{◌≡◌, ◌++◌, ◌∷◌, [], if◌then◌else◌, IfOk, OnOk};
+ghost use Rattle.std.specs.Prelude.{◌≡◌, ◌++◌, ◌∷◌, [], if◌then◌else◌, IfOk, None, OnOk, Option};
 ghost use Rattle.ir_text.specs.Lines.{instruction_text};
+ghost use Rattle.ir_text.specs.Texts.{IsInstr};
+ghost use Rattle.ir_tree.specs.declared.item.Item.TheVariants as tree;
+ghost use Rattle.ir_tree.specs.declared.name.Name.{Name};
+ghost use Rattle.ir_tree.specs.declared.op.Op.{Op};
 ghost use Rattle.mutant_maker.specs.Lists.{made_in};
 ghost use Rattle.mutant_maker.specs.Walks.{row_of, with_ops};
 ghost use Rattle.mutant_maker.specs.Changes.{changed};
@@ -37,12 +41,22 @@ pub(crate) struct Walk {
 }
 
 /// Returns an instruction with one part changed.
-fn changed_copy(alloc: Global, op: &Op, change: Change) -> Result<Op, OutOfMemory>
-    ensures { IfOk result (λ new. new ≡ changed op.now change) }
+fn changed_copy(alloc: Global, op: &Op, change: Change) -> Result<Box<Op>, OutOfMemory>
+    ensures { IfOk result (λ new. new.value ≡ changed op.now change) }
 {
-    let mut new = op.copy(alloc)?;
+    let mut new = Box::new(alloc, op.copy(alloc)?)?;
     apply(alloc, &mut new, change)?;
     Ok(new)
+}
+
+/// Returns the canonical text of an item that is an instruction.
+fn item_text(alloc: Global, item: &Item) -> Result<Bytes, OutOfMemory>
+    requires { IsInstr item.now }
+    ensures { (name : Option Name) (op : Op) → item.now ≡ tree.Instr name op
+        → IfOk result (λ text. text ≡ instruction_text op) }
+{
+    let text = print_instruction(alloc, item)?;
+    Ok(Bytes::from_vec(text))
 }
 
 /// Returns the canonical text of an instruction with one part changed.
@@ -50,8 +64,9 @@ fn text_of(alloc: Global, op: &Op, change: Change) -> Result<Bytes, OutOfMemory>
     ensures { IfOk result (λ text. text ≡ instruction_text (changed op.now change)) }
 {
     let new = changed_copy(alloc, op, change)?;
-    let item = Item::Instr(None, Boxed::new(alloc, new)?);
-    Ok(Bytes::from_vec(print_instruction(alloc, &item)?))
+    let new = Boxed::new(alloc, Box::into_inner(new))?;
+    let item = Item::Instr(None, new);
+    item_text(alloc, &item)
 }
 
 impl Walk {

@@ -10,9 +10,11 @@
 //! `\`. No line break follows by itself.
 #![tactic(auto)]
 
+mod all;
 mod repeated;
 mod rows;
 mod script;
 
-pub use rows::{Carries, Tally};
+pub use all::play_all;
+pub use rows::{Carries, Tally, file_named};
 pub use script::play;

@@ -96,8 +96,13 @@ pub fn append_line(alloc: Global, file: &mut Vec<u8>, line: &str) -> Result<(), 
             file.push(b'\n')?;
         }
         Some((count, text)) => {
+            let is_plain = text.bytes().all(|byte| byte != b'\\');
             for number in 0..count {
-                append_once(alloc, file, text, number)?;
+                if is_plain {
+                    file.extend_from_slice(text.as_bytes())?;
+                } else {
+                    append_once(alloc, file, text, number)?;
+                }
             }
         }
     }

@@ -15,6 +15,16 @@ pub trait Carries {
     ) -> Result<Vec<u8>, AllocError>;
 }
 
+/// The text of a file, of two with one name the later one. A file that isn't there is empty.
+pub fn file_named<'a>(files: &'a [(String, Vec<u8>)], name: &str) -> &'a [u8] {
+    for (other, text) in files.iter().rev() {
+        if other.as_str() == name {
+            return text.as_slice();
+        }
+    }
+    &[]
+}
+
 /// How many rows a script has, and how many of them answered otherwise than it says.
 #[derive(Clone, Copy, Debug, PartialEq, Eq)]
 pub struct Tally {

@@ -1,0 +1,10 @@
+use Rattle.std.proofs.Common.{◌≡◌, length}
+use Rattle.std.specs.List.{All}
+use Rattle.am_base.specs.Word.{IsWord}
+use Rattle.base_tests.proofs.lanes.lanes.Given as goal
+
+abbrev pub invariant-lanes : goal.invariant-lanes
+invariant-lanes l = record {
+  len : length l.words.items ≡ l.lane;
+  words : All (IsWord l.fn.w) l.words.items;
+}
