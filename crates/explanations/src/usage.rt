@@ -55,7 +55,10 @@ impl Program {
 /// Whether a command's name is known.
 fn is_command(program: Program, word: &str) -> bool {
     match program {
-        Program::Accmut => matches!(word, "check" | "make" | "run" | "alone" | "groups" | "reduce" | "load"),
+        Program::Accmut => matches!(
+            word,
+            "check" | "make" | "run" | "alone" | "groups" | "reduce" | "load"
+        ),
         Program::View => matches!(word, "number" | "page"),
     }
 }
