@@ -28,7 +28,7 @@ fn number_of<'a>(name: &'a str, module: &'a str) -> Option<ViewCommand<&'a str>>
 }
 
 fn page_of<'a>(name: &'a str, files: Files<&'a str>) -> Option<ViewCommand<&'a str>>
-    ensures { option_map view_meant result ≡ spec.page_of name.now files.module.now files.mutants.now files.tests.now }
+    ensures { option_map view_meant result ≡ spec.page_of name.now files.entry.module.now files.entry.mutants.now files.entry.tests.now }
 {
     if name == "page" {
         Some(ViewCommand::Page { files })
