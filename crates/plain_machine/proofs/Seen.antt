@@ -40,10 +40,10 @@ module _ {S C : Type 0} (T : Trial S C) where
   others : (seen : List (Option ℕ)) (p at i : ℕ) → at ≢ p → get_or (noted seen p i) at None ≡ get_or seen at None
   others seen p at i h = get_or-set_other seen p at (Some (unwrap_or (get_or seen p None) i)) None h
 
-  pub length_noted : (seen : List (Option ℕ)) (p i : ℕ) → length (noted seen p i) ≡ length seen
+  length_noted : (seen : List (Option ℕ)) (p i : ℕ) → length (noted seen p i) ≡ length seen
   length_noted seen p i = length-set seen p (Some (unwrap_or (get_or seen p None) i))
 
-  pub length_seen : (i : ℕ) (seen : List (Option ℕ)) (s : S) (cs : List C) → length (seen_from T i seen s cs) ≡ length seen
+  length_seen : (i : ℕ) (seen : List (Option ℕ)) (s : S) (cs : List C) → length (seen_from T i seen s cs) ≡ length seen
   length_seen i seen s [] = refl
   length_seen i seen s (c ∷ cs) = length_seen (i + 1) (noted seen (T.meanings.place s) i) (T.meanings.after s c) cs ∙ length_noted seen (T.meanings.place s) i
 
@@ -79,7 +79,7 @@ module _ {S C : Type 0} (T : Trial S C) where
       earlier zero l = away
       earlier (suc k) l = h.before k (omega (arith, l))
 
-  pub is_noted : (i : ℕ) (seen : List (Option ℕ)) (s : S) (cs : List C) (at : ℕ) → at < length seen → get_or seen at None ≡ None
+  is_noted : (i : ℕ) (seen : List (Option ℕ)) (s : S) (cs : List C) (at : ℕ) → at < length seen → get_or seen at None ≡ None
       → IsNoted i at s cs (get_or (seen_from T i seen s cs) at None)
   is_noted i seen s [] at l e = subst (IsNoted i at s []) (sym e) (λ k h. absurd (omega (arith, h)))
   is_noted i seen s (c ∷ cs) at l e =
@@ -102,7 +102,7 @@ module _ {S C : Type 0} (T : Trial S C) where
   beyond (x ∷ xs) zero h = absurd (omega (arith, h))
   beyond (x ∷ xs) (suc k) h = beyond xs k (omega (arith, h))
 
-  nothing : (n at : ℕ) → get_or (replicate n None) at None ≡ None {ℕ}
+  nothing : (n at : ℕ) → get_or {A = Option ℕ} (replicate n None) at None ≡ None
   nothing zero at = refl
   nothing (suc n) zero = refl
   nothing (suc n) (suc at) = nothing n at
@@ -120,9 +120,9 @@ module _ {S C : Type 0} (T : Trial S C) where
         let list = seen_from T 0 (replicate n None) T.start (trace T 0) in
         let long : length list ≡ n = length_seen 0 (replicate n None) T.start (trace T 0) ∙ length-replicate n None in
         ⊎_elim
-        (λ (l : at < n). is_visit at (get_or list at None) (is_noted 0 (replicate n None) T.start (trace T 0) at (let r : length (replicate n None) ≡ n = length-replicate n None in omega (arith, l, r)) (nothing n at)))
+        (λ (l : at < n). is_visit at (get_or list at None) (is_noted 0 (replicate n None) T.start (trace T 0) at (let r : length (replicate {A = Option ℕ} n None) ≡ n = length-replicate n None in omega (arith, l, r)) (nothing n at)))
         (λ (g : n ≤ at).
-        subst (IsVisit T at) (sym (beyond list at None (omega (arith, g, long)))) (λ k h e. let i = inside k h in absurd (omega (arith, i, e, g))))
+        subst (IsVisit T at) (sym (beyond list at (omega (arith, g, long)))) (λ (k : ℕ) (h : k < length (trace T 0)) e. let i = inside k h in absurd (omega (arith, i, e, g))))
         (cases_lt at n);
   }
 
@@ -146,9 +146,20 @@ module _ (code : Code) (table : Table) (answers : Answers) (case : Case) (sound 
 -- ---- the table of a whole run
 
 module _ {S C : Type 0} (T U : Trial S C) (same : T ≡ U) (s : S) (is : s ≡ U.start) where
-  pub run_visits : (n : ℕ) (list : List (Option ℕ)) → list ≡ seen_from T 0 (replicate n None) s (changes_from T 0 T.budget s)
-      → ((k : ℕ) → k < length (trace U 0) → place_at U U.start (trace U 0) k < n) → AreVisits U list
-  run_visits n list e inside =
+  abbrev IsPass : ℕ → List (Option ℕ) → List (Option ℕ) → Type 0
+  IsPass n first list = (first ≡ replicate n None) × (list ≡ seen_from T 0 first s (changes_from T 0 T.budget s))
+
+  passed : (n : ℕ) (first list : List (Option ℕ)) → IsPass n first list → list ≡ seen_from T 0 (replicate n None) s (changes_from T 0 T.budget s)
+  passed n first list h = h.1 ∙ ap (λ xs. seen_from T 0 xs s (changes_from T 0 T.budget s)) h.0
+
+  pub run_visits : (n : ℕ) (first list : List (Option ℕ)) → first ≡ replicate n None → list ≡ seen_from T 0 first s (changes_from T 0 T.budget s)
+      → ((k : ℕ) → k < length (trace U 0) → U.meanings.place (state_after U U.start (take k (trace U 0))) < n) → AreVisits U list
+  run_visits n first list b e inside =
       let P : S → Type 0 = λ t. list ≡ seen_from U 0 (replicate n None) t (changes_from U 0 U.budget t) in
       let Q : Trial S C → Type 0 = λ V. list ≡ seen_from V 0 (replicate n None) s (changes_from V 0 V.budget s) in
-      subst (AreVisits U) (sym (subst P is (subst Q same e))) (seen_visits U n inside)
+      subst (AreVisits U) (sym (subst P is (subst Q same (passed n first list (b, e))))) (seen_visits U n inside)
+
+  pub run_count : (n : ℕ) (first list : List (Option ℕ)) → first ≡ replicate n None → list ≡ seen_from T 0 first s (changes_from T 0 T.budget s)
+      → length list ≡ n
+  run_count n first list b e =
+      ap length (passed n first list (b, e)) ∙ length_seen T 0 (replicate n None) s (changes_from T 0 T.budget s) ∙ length-replicate n None

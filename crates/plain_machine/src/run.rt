@@ -1,5 +1,5 @@
 //! The run of one mutant by itself.
-ghost use Rattle.std.specs.Prelude.{◌≡◌, ℕ, ◌+◌, ◌*◌, ◌^◌, ◌<◌, ◌≤◌, length, map, unwrap_or, IfOk, OnOk};
+ghost use Rattle.std.specs.Prelude.{◌≡◌, ℕ, ◌+◌, ◌*◌, ◌^◌, ◌<◌, ◌≤◌, length, map, replicate, unwrap_or, IfOk, None, OnOk};
 ghost use Rattle.code_form.specs.Sound.{IsSound};
 ghost use Rattle.code_form.specs.Variant.{mutants_of, variant_of};
 ghost use Rattle.code_form.specs.Fit.{FitsTable, FitsCase};
@@ -174,6 +174,13 @@ pub fn run_alone(
     })
 }
 
+/// A table without a number.
+fn unvisited(alloc: Global, places: usize) -> Result<Vec<Option<u64>>, OutOfMemory>
+    ensures { IfOk result (λ list. list.items ≡ replicate places None) }
+{
+    Ok(vec![in alloc; None; places]?)
+}
+
 /// Runs mutant 0 by itself on a case, and returns for each place the number, from 0, of the first
 /// change that it makes there: none where it makes none. The ports are asked as `run_alone` asks them
 /// for mutant 0, and after a refusal at most so often. It is refused only for want of memory.
@@ -204,7 +211,7 @@ pub fn visits(
 {
     let program = Program::new(alloc, code)?;
     let mut state = Flat::start(alloc, code, case)?;
-    let mut seen = vec![in alloc; None; code.instrs.len()]?;
+    let mut seen = unvisited(alloc, code.instrs.len())?;
     let _length = run(
         alloc, &program, variants, 0, case, &mut state, ports, &mut seen,
     )?;
