@@ -1,10 +1,9 @@
 -- One more change of a trace: what is left of it, its last state, its length and its tolls.
-use Rattle.std.proofs.Common.{◌≡◌, ℕ, suc, List, [], Option, subst, ◌+◌, ◌≤◌, false, true, ◌∷◌, length, arith, sym, ◌∙◌, ap}
+use Rattle.std.proofs.Common.{◌≡◌, ℕ, suc, List, [], subst, ◌+◌, ◌≤◌, false, true, ◌∷◌, length, arith, sym, ◌∙◌, ap}
 use Rattle.traces.specs.Trace.{Trial, change_of, changes_from, state_after}
 use Rattle.traces.proofs.Trace.{ended_none, live_more, none_left}
 use Rattle.ports.specs.Asks.{asked_in, AskedBy, AskedAtMostBy}
 use Rattle.plain_machine.specs.Tolls.{tolls_from, tolls_of}
-use Rattle.plain_machine.specs.Visits.{noted, seen_from}
 
 module _ {S C : Type 0} (T : Trial S C) (m : ℕ) where
   -- nothing is left where the state has ended, or the budget is used up
@@ -27,13 +26,6 @@ module _ {S C : Type 0} (T : Trial S C) (m : ℕ) where
   tolls_spent p n s now all h e =
       let none : tolls_from T m p s (changes_from T m n s) ≡ 0 = ap (λ (k : ℕ). tolls_from T m p s (changes_from T m k s)) h ∙ ap (tolls_from T m p s) (none_left T m s) in omega arith
 
-  pub seen_over : (n i : ℕ) (seen all : List (Option ℕ)) (s : S) → T.meanings.ended s ≡ true → seen_from T i seen s (changes_from T m n s) ≡ all → seen ≡ all
-  seen_over n i seen all s h e = sym (ap (seen_from T i seen s) (ended_none T m n s h)) ∙ e
-
-  pub seen_spent : (n i : ℕ) (seen all : List (Option ℕ)) (s : S) → n ≡ 0 → seen_from T i seen s (changes_from T m n s) ≡ all → seen ≡ all
-  seen_spent n i seen all s h e =
-      sym (ap (λ (k : ℕ). seen_from T i seen s (changes_from T m k s)) h ∙ ap (seen_from T i seen s) (none_left T m s)) ∙ e
-
   -- a state that hasn't ended has a change to come, whose toll is among those that are left
   pub toll_left : (p n k : ℕ) (s : S) → n ≡ suc k → T.meanings.ended s ≡ false → T.meanings.toll p (T.variant m (T.meanings.place s)) s ≤ tolls_from T m p s (changes_from T m n s)
   toll_left p n k s more lives = omega (arith, ap (λ (b : ℕ). tolls_from T m p s (changes_from T m b s)) more, ap (tolls_from T m p s) (live_more T m k s lives))
@@ -53,13 +45,6 @@ module _ {S C : Type 0} (T : Trial S C) (m : ℕ) where
 
     pub length_more : (i all : ℕ) → i + length (changes_from T m n s) ≡ all → i + 1 + length (changes_from T m k t) ≡ all
     length_more i all e = omega (arith, ap length begins)
-
-    pub seen_more : (i : ℕ) (seen later all : List (Option ℕ)) → later ≡ noted seen (T.meanings.place s) i
-        → seen_from T i seen s (changes_from T m n s) ≡ all → seen_from T (i + 1) later t (changes_from T m k t) ≡ all
-    seen_more i seen later all now e =
-        ap (λ l. seen_from T (i + 1) l t (changes_from T m k t)) now
-        ∙ ap (λ u. seen_from T (i + 1) (noted seen (T.meanings.place s) i) u (changes_from T m k t)) applied
-        ∙ sym (ap (seen_from T i seen s) begins) ∙ e
 
     pub tolls_more : (p now later all : ℕ) → later ≡ now + T.meanings.toll p (T.variant m (T.meanings.place s)) s → now + tolls_from T m p s (changes_from T m n s) ≡ all
         → later + tolls_from T m p t (changes_from T m k t) ≡ all

@@ -1,2 +1,1 @@
 pub mod Tolls
-pub mod Visits

@@ -5,5 +5,5 @@ mod run;
 mod turn;
 
 pub use lane_eval::{Program, fill_variant, try_variant, try_variants};
-pub use run::{Alone, run_alone, visits};
+pub use run::{Alone, run_alone};
 pub use turn::apply;

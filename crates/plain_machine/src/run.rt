@@ -1,5 +1,5 @@
 //! The run of one mutant by itself.
-ghost use Rattle.std.specs.Prelude.{◌≡◌, ℕ, ◌+◌, ◌*◌, ◌^◌, ◌<◌, ◌≤◌, length, map, replicate, unwrap_or, IfOk, None, OnOk};
+ghost use Rattle.std.specs.Prelude.{◌≡◌, ℕ, ◌+◌, ◌*◌, ◌^◌, ◌<◌, ◌≤◌, length, map, IfOk, OnOk};
 ghost use Rattle.code_form.specs.Sound.{IsSound};
 ghost use Rattle.code_form.specs.Variant.{mutants_of, variant_of};
 ghost use Rattle.code_form.specs.Fit.{FitsTable, FitsCase};
@@ -10,7 +10,6 @@ ghost use Rattle.code_form.specs.Variant.{instr_of};
 ghost use Rattle.ports.specs.Asks.{answers_in, asked_in, AskedBy, AskedAtMostBy};
 ghost use Rattle.lane_eval.specs.Running.{IsRunning};
 ghost use Rattle.plain_machine.specs.Tolls.{tolls_from, tolls_of};
-ghost use Rattle.plain_machine.specs.Visits.{AreVisits, noted, seen_from};
 
 use crate::turn::apply;
 use am_base::{OutOfMemory, Outcome};
@@ -60,29 +59,7 @@ fn next(
     fill_variant(alloc, program, variants, v, s, ports, out)
 }
 
-/// The number of the first of two changes at a place, the first of which may not be there.
-fn earlier(first: Option<u64>, n: u64) -> u64
-    ensures { result ≡ unwrap_or first n }
-{
-    match first {
-        Some(number) => number,
-        None => n,
-    }
-}
-
-/// Notes the number of a change at its place, where the table has the place and no number for it.
-fn note(seen: &mut Vec<Option<u64>>, place: u32, n: u64)
-    ensures { seen.new.items ≡ noted seen.old.items place n }
-{
-    let at = place as usize;
-    if at < seen.len() {
-        let first = earlier(seen[at], n);
-        seen[at] = Some(first);
-    }
-}
-
-/// Makes the changes of a mutant from a state on, to its end or to the end of the budget, and answers
-/// how many there were. `seen` gets the number of the first change at each place that it has.
+/// Makes the changes of a mutant from a state on, to its end or to the end of the budget, and answers how many there were.
 fn run(
     alloc: Global,
     program: &Program,
@@ -91,7 +68,6 @@ fn run(
     case: &Case,
     s: &mut Flat,
     ports: &mut [Box<dyn Port>],
-    seen: &mut Vec<Option<u64>>,
 ) -> Result<u64, OutOfMemory>
     requires sound { IsSound program.now }
     requires table { FitsTable program.now variants.now }
@@ -102,8 +78,6 @@ fn run(
         IfOk result (λ _. s.new.state ≡ state_after T s.old.state (changes_from T m case.now.budget s.old.state)) }
     ensures length { let T = case_trial program.now variants.now (answers_in (map (λ q. answers q) ports.old)) case.now in
         IfOk result (λ n. n ≡ length (changes_from T m case.now.budget s.old.state)) }
-    ensures seen { let T = case_trial program.now variants.now (answers_in (map (λ q. answers q) ports.old)) case.now in
-        OnOk result (seen.new.items ≡ seen_from T 0 seen.old.items s.old.state (changes_from T m case.now.budget s.old.state)) }
     ensures signs { map (λ q. sign q) ports.new ≡ map (λ q. sign q) ports.old }
     ensures answers { map (λ q. answers q) ports.new ≡ map (λ q. answers q) ports.old }
     ensures asks { let T = case_trial program.now variants.now (answers_in (map (λ q. answers q) ports.old)) case.now in
@@ -118,7 +92,6 @@ fn run(
         if s.has_ended() {
             return Ok(i);
         }
-        note(seen, s.place(), i);
         next(alloc, program, variants, m, s, ports, &mut change)?;
         s.ready(program.code(), &change)?;
         apply(program, s, &change);
@@ -164,56 +137,9 @@ pub fn run_alone(
 {
     let program = Program::new(alloc, code)?;
     let mut state = Flat::start(alloc, code, case)?;
-    let mut none = Vec::new(alloc);
-    let length = run(
-        alloc, &program, variants, m, case, &mut state, ports, &mut none,
-    )?;
+    let length = run(alloc, &program, variants, m, case, &mut state, ports)?;
     Ok(Alone {
         outcome: state.into_outcome(),
         length,
     })
-}
-
-/// A table without a number.
-fn unvisited(alloc: Global, places: usize) -> Result<Vec<Option<u64>>, OutOfMemory>
-    ensures { IfOk result (λ list. list.items ≡ replicate places None) }
-{
-    Ok(vec![in alloc; None; places]?)
-}
-
-/// Runs mutant 0 by itself on a case, and returns for each place the number, from 0, of the first
-/// change that it makes there: none where it makes none. The ports are asked as `run_alone` asks them
-/// for mutant 0, and after a refusal at most so often. It is refused only for want of memory.
-pub fn visits(
-    alloc: Global,
-    code: &Code,
-    variants: &Variants,
-    case: &Case,
-    ports: &mut [Box<dyn Port>],
-) -> Result<Vec<Option<u64>>, OutOfMemory>
-    requires sound { IsSound code.now }
-    requires table { FitsTable code.now variants.now }
-    requires case { FitsCase code.now case.now }
-    requires signs { map (λ q. sign q) ports.old ≡ code.now.signs }
-    requires few { (p : ℕ) → asked_in (map (λ q. asked q) ports.old) p ≤ 3 * 2 ^ 61 }
-
-    ensures visits { let T = case_trial code.now variants.now (answers_in (map (λ q. answers q) ports.old)) case.now in
-        IfOk result (λ list. AreVisits T list.items) }
-    ensures count { IfOk result (λ list. length list.items ≡ length code.now.instrs) }
-
-    // Whatever it answers, the ports mean the same, and each was asked no more often than the run asks it.
-    ensures signs { map (λ q. sign q) ports.new ≡ map (λ q. sign q) ports.old }
-    ensures answers { map (λ q. answers q) ports.new ≡ map (λ q. answers q) ports.old }
-    ensures asks { let T = case_trial code.now variants.now (answers_in (map (λ q. answers q) ports.old)) case.now in
-        OnOk result (AskedBy (map (λ q. asked q) ports.old) (map (λ q. asked q) ports.new) (tolls_of T 0)) }
-    ensures asks_at_most { let T = case_trial code.now variants.now (answers_in (map (λ q. answers q) ports.old)) case.now in
-        AskedAtMostBy (map (λ q. asked q) ports.old) (map (λ q. asked q) ports.new) (tolls_of T 0) }
-{
-    let program = Program::new(alloc, code)?;
-    let mut state = Flat::start(alloc, code, case)?;
-    let mut seen = unvisited(alloc, code.instrs.len())?;
-    let _length = run(
-        alloc, &program, variants, 0, case, &mut state, ports, &mut seen,
-    )?;
-    Ok(seen)
 }

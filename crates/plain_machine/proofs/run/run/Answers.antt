@@ -11,8 +11,7 @@ use Rattle.lane_eval.specs.Plain.{CanApply}
 use Rattle.lane_eval.specs.Running.{IsRunning}
 use Rattle.lane_eval.proofs.Steps.{variant_applies, variant_runs}
 use Rattle.machine_form.proofs.LightChanges.{toll_small}
-use Rattle.plain_machine.proofs.Turns.{state_over, length_over, tolls_over, state_spent, length_spent, tolls_spent, state_more, length_more, tolls_more, toll_left, seen_over, seen_spent, seen_more}
-use Rattle.plain_machine.specs.Visits.{noted}
+use Rattle.plain_machine.proofs.Turns.{state_over, length_over, tolls_over, state_spent, length_spent, tolls_spent, state_more, length_more, tolls_more, toll_left}
 use Rattle.plain_machine.proofs.run.run.Goals as goal
 
 pub returns-then-has_ended-clause-state : goal.returns-then-has_ended-clause-state
@@ -35,16 +34,6 @@ returns-then-has_ended-clause-asks_at_most g c p =
     let T = case_trial c.args.program.now c.args.variants.now (answers_in (map (λ q. (goal.Port-dyn g (q.vtable, q.value)).answers q.value) c.args.ports.now)) c.args.case.now in
     let all = tolls_over T c.args.m p (c.args.case.now.budget - c.loop-i.i) c.loop-i.s.state _ _ (sym c.has_ended.ensures ∙ c.if-has_ended.true) (c.loop-i.invariant.asks p) in
     (c.loop-i.invariant.rise p, omega (arith, all))
-
-pub returns-then-has_ended-clause-seen : goal.returns-then-has_ended-clause-seen
-returns-then-has_ended-clause-seen g c =
-    let T = case_trial c.args.program.now c.args.variants.now (answers_in (map (λ q. (goal.Port-dyn g (q.vtable, q.value)).answers q.value) c.args.ports.now)) c.args.case.now in
-    seen_over T c.args.m (c.args.case.now.budget - c.loop-i.i) c.loop-i.i c.loop-i.seen.items _ c.loop-i.s.state (sym c.has_ended.ensures ∙ c.if-has_ended.true) c.loop-i.invariant.seen
-
-pub returns-clause-seen : goal.returns-clause-seen
-returns-clause-seen g c =
-    let T = case_trial c.args.program.now c.args.variants.now (answers_in (map (λ q. (goal.Port-dyn g (q.vtable, q.value)).answers q.value) c.args.ports.now)) c.args.case.now in
-    seen_spent T c.args.m (c.args.case.now.budget - c.loop-i.i) c.loop-i.i c.loop-i.seen.items _ c.loop-i.s.state (omega arith) c.loop-i.invariant.seen
 
 pub returns-clause-state : goal.returns-clause-state
 returns-clause-state g c =
@@ -121,8 +110,6 @@ loop-i-preserved g c =
     record {
       state = state_more T c.args.m n k c.loop-i.s.state c.apply.new.s.state c.next.new.out more lives is applied _ c.loop-i.invariant.state;
       length = length_more T c.args.m n k c.loop-i.s.state c.apply.new.s.state c.next.new.out more lives is applied c.loop-i.i _ c.loop-i.invariant.length;
-      seen = seen_more T c.args.m n k c.loop-i.s.state c.apply.new.s.state c.next.new.out more lives is applied c.loop-i.i c.loop-i.seen.items c.note.new.seen.items _
-          (c.note.ensures ∙ ap (λ (p : ℕ). noted c.loop-i.seen.items p c.loop-i.i) c.place.ensures) c.loop-i.invariant.seen;
       running = subst (IsRunning c.args.program.now) (sym leads) runs;
       signs = c.next.ensures.signs ∙ c.loop-i.invariant.signs;
       answers = c.next.ensures.answers ∙ c.loop-i.invariant.answers;

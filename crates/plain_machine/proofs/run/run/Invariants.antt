@@ -4,7 +4,6 @@ use Rattle.machine_form.specs.Machine.{case_trial}
 use Rattle.ports.specs.Asks.{answers_in, asked_in}
 use Rattle.lane_eval.specs.Running.{IsRunning}
 use Rattle.plain_machine.specs.Tolls.{tolls_from}
-use Rattle.plain_machine.specs.Visits.{seen_from}
 use Rattle.plain_machine.proofs.run.run.Given as goal
 
 abbrev pub invariant-loop-i : goal.invariant-loop-i
@@ -18,7 +17,6 @@ invariant-loop-i g l =
     record {
       state : state_after T l.s.state left ≡ state_after T l.initial.s.state all;
       length : l.i + length left ≡ length all;
-      seen : seen_from T l.i l.seen.items l.s.state left ≡ seen_from T 0 l.initial.seen.items l.initial.s.state all;
       running : IsRunning l.program l.s.state;
       signs : map (λ q. (goal.Port-dyn g (q.vtable, q.value)).sign q.value) l.ports ≡ map (λ q. (goal.Port-dyn g (q.vtable, q.value)).sign q.value) l.initial.ports;
       answers : map (λ q. (goal.Port-dyn g (q.vtable, q.value)).answers q.value) l.ports ≡ answers;
