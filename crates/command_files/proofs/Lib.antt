@@ -4,3 +4,4 @@ pub mod Same
 pub mod OneModule
 pub mod OneList
 pub mod OneSuite
+pub mod Placed

@@ -15,7 +15,7 @@ use Rattle.ir_grammar.proofs.ModuleLemmas.{item-one}
 use Rattle.ir_reader.specs.Answers.{IsWholeInstruction}
 use Rattle.ir_rules.specs.Replacements.{replacement_by}
 use Rattle.list_records.specs.Records.{Fields, rows_of}
-use Rattle.mutant_records.specs.Faults.{first_fault}
+use Rattle.list_records.specs.Faults.{first_fault}
 use Rattle.mutant_records.specs.Lists.{Reading, form_of, mutant_named, number_called, place_called, text_called, place_faults, made_of, GivesUnless, RecordGives, GoesOn, RecordsGive, Behind, ListGives}
 use Rattle.mutant_records.specs.declared.error.MutantError.{MutantError}
 use Rattle.mutant_records.specs.declared.list.ListForm.{ListForm}

@@ -1,6 +1,5 @@
 -- The module of a file: what it gives where it is accepted, and the line where it is refused.
 use Rattle.std.specs.Prelude.{◌≡◌, ℕ, List, Some, None}
-use Rattle.code_form.specs.declared.code.Code.{Code}
 use Rattle.code_form.specs.declared.sign.PortSign.{PortSign}
 use Rattle.ir_tokens.specs.Bytes.{Text}
 use Rattle.ir_tokens.specs.Tokens.{HasTokens}

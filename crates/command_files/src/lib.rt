@@ -7,7 +7,7 @@ mod module;
 mod mutants;
 mod suite;
 
-pub use laws::{one_module_file, one_mutants_file, one_tests_file};
+pub use laws::{broken_item_has_a_token, one_module_file, one_mutants_file, one_tests_file};
 pub use module::{Loaded, load_module};
 pub use mutants::load_mutants;
 pub use suite::load_tests;

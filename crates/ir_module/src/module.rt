@@ -1,5 +1,5 @@
 //! The code of a module.
-ghost use Rattle.std.specs.Prelude.{◌≡◌, ◌<◌, ◌≤◌, ◌^◌, All, List, None, false, length, map, IfOk};
+ghost use Rattle.std.specs.Prelude.{◌≡◌, ◌<◌, ◌≤◌, ◌^◌, All, List, None, false, length, map, IfOk, OnOk};
 ghost use Rattle.am_base.specs.declared.limits.TheConstants.{MAX_FILE_BYTES, MEMORY_BYTES};
 ghost use Rattle.ir_tree.specs.declared.item.Item.{Item};
 ghost use Rattle.ir_names.specs.Names.{firsts};
@@ -9,11 +9,12 @@ ghost use Rattle.ir_rules.specs.Modules as spec;
 ghost use Rattle.ir_rules.specs.Rules.{fault};
 ghost use Rattle.ir_rules.specs.Types.{type_defs, kind_of};
 ghost use Rattle.ir_scopes.specs.Kinds.{kind_in};
+ghost use Rattle.ir_pass.specs.Frames.{no_frame};
 ghost use Rattle.ir_pass.specs.Heads.{opened};
 ghost use Rattle.ir_sound.specs.Whole.{AreWhole};
 ghost use Rattle.ir_memory.specs.Places.{placed};
 ghost use Rattle.ir_memory.specs.Inits.{PlacedIsSmall};
-ghost use Rattle.ir_module.specs.Parts.{with_memory};
+ghost use Rattle.ir_module.specs.Parts.{no_parts, with_memory};
 
 use crate::parts::{Parts, add_item, nothing};
 use crate::signs::copies;
@@ -25,7 +26,7 @@ use ir_call_rules::Ports;
 use ir_memory::{Places, addresses_of, opening_bytes, places_of, stack_base_of};
 use ir_names::NameTable;
 use ir_op_codes::Names;
-use ir_pass::{closed_frame, enter, is_end, is_head, leave, step};
+use ir_pass::{Frame, closed_frame, enter, is_end, is_head, leave, step};
 use ir_rules::Entity;
 use ir_scopes::{KindTable, entities_of};
 use ir_tree::Item;
@@ -36,6 +37,44 @@ fn opens(inside: bool, item: &Item) -> bool
     ensures { result ≡ opened inside item.now }
 {
     is_head(item) || (inside && !is_end(item))
+}
+
+/// Appends the functions and the instructions of a module without a fault. `frame` knows of no item
+/// yet, and there are no `parts`; they are lent, so that no way out of the pass lets them go.
+fn add_items(
+    alloc: Global,
+    types: &mut Types<'_>,
+    tables: &Tables<'_>,
+    frame: &mut Frame,
+    parts: &mut Parts,
+    items: &[Item],
+) -> Result<(), OutOfMemory>
+    requires whole { AreWhole false items.now }
+    requires few { length items.now ≤ MAX_FILE_BYTES }
+    requires faultless { fault items.now tables.now.ports.now ≡ None }
+    requires types { types.old.defs ≡ type_defs items.now }
+    requires kinds { kind_in tables.now.kinds.now.names ≡ kind_of (type_defs items.now) }
+    requires entities { tables.now.entities.now
+        ≡ firsts (entities.entities_of (kind_of (type_defs items.now)) items.now) }
+    requires addresses { tables.now.addresses.now
+        ≡ firsts (memory.addresses_of (type_defs items.now) items.now) }
+    requires frame { frame.old ≡ no_frame }
+    requires parts { parts.old ≡ no_parts }
+    ensures defs { types.new.defs ≡ types.old.defs }
+    ensures funcs { OnOk result (parts.new.funcs ≡ spec.functions_from (type_defs items.now) 0 items.now) }
+    ensures instrs { let addresses = memory.addresses_of (type_defs items.now) items.now in
+        OnOk result (parts.new.instrs ≡ spec.instrs_from items.now tables.now.ports.now addresses 0 items.now) }
+    ensures results { OnOk result (parts.new.results ≡ spec.results_from items.now tables.now.ports.now 0 items.now) }
+{
+    let mut inside = false;
+    'each: for (i, item) in items.iter().enumerate() {
+        enter(alloc, tables.kinds, frame, &items[i..])?;
+        add_item(alloc, types, tables, parts, frame, item)?;
+        step(alloc, tables.kinds, frame, item)?;
+        inside = opens(inside, item);
+        leave(alloc, frame, inside, item);
+    }
+    Ok(())
 }
 
 /// Returns the functions and the instructions of a module without a fault. It takes time about
@@ -62,15 +101,8 @@ fn parts_of(
     ensures results { IfOk result (λ p. p.results ≡ spec.results_from items.now tables.now.ports.now 0 items.now) }
 {
     let mut frame = closed_frame(alloc);
-    let mut inside = false;
     let mut parts = nothing(alloc);
-    'each: for (i, item) in items.iter().enumerate() {
-        enter(alloc, tables.kinds, &mut frame, &items[i..])?;
-        add_item(alloc, types, tables, &mut parts, &frame, item)?;
-        step(alloc, tables.kinds, &mut frame, item)?;
-        inside = opens(inside, item);
-        leave(alloc, &mut frame, inside, item);
-    }
+    add_items(alloc, types, tables, &mut frame, &mut parts, items)?;
     Ok(parts)
 }
 

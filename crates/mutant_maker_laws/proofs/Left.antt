@@ -30,7 +30,7 @@ use Rattle.ir_rules.specs.Codes.{op_code, typed_code, block_code, callee_code, w
 use Rattle.ir_rules.specs.Settings.{entity_of}
 use Rattle.ir_sound.proofs.Lists.{Each}
 use Rattle.mutant_maker.specs.Makers.{operations, same_operation, predicates, same_predicate, is_wide, with_word, new_words, new_numbers, with_argument, with_value}
-use Rattle.mutant_maker.specs.Makers.{constants_from, same_operand, new_conditions, with_condition, replacements_of, values_of}
+use Rattle.mutant_maker.specs.Makers.{constants_from, same_operand, new_conditions, with_condition, condition_maker, replacements_of, values_of}
 use Rattle.mutant_maker_laws.specs.Tried.{tried, tried_words, tried_numbers, tried_from, IsAmong, AreLeft}
 use Rattle.mutant_maker_laws.proofs.Apart.{Apart, AllApart, all-apart}
 use Rattle.mutant_maker_laws.proofs.Fitting.{argument-is, StandAt}
@@ -267,17 +267,22 @@ module _ (s : Setting) (a : Addresses) where
             (λ g. subst (λ k. IsAmong (code (word k)) (is ++ code (word n) ∷ [])) ((Decides-eqb n m).0 g) (among_last (code (word n)) is))
             (any_push (λ k. k == m) (old ∷ words) n e)
 
-        words_left : (is : List Instr) (words news : List ℕ) → AreSeen is words
-            → (more : List ℕ) × (fold (with_word old) words news ≡ words ++ more) × Leaves is (numbers (map (signed w) news)) (numbers (map (signed w) more))
+        -- what is left behind some words
+        abbrev Behind : List Instr → List ℕ → List ℕ → Type 0
+        Behind is words news = (more : List ℕ) × (fold (with_word old) words news ≡ words ++ more)
+            × Leaves is (numbers (map (signed w) news)) (numbers (map (signed w) more))
+
+        words_left : (is : List Instr) (words news : List ℕ) → AreSeen is words → Behind is words news
         words_left is words [] h = ([], sym (append-nil words), refl)
-        words_left is words (n ∷ news) h = by (list_any (λ m. m == n) (old ∷ words)) refl
+        words_left is words (n ∷ news) h =
+            by (list_any (λ m. m == n) (old ∷ words)) refl (words_left is words news h)
+            (words_left (is ++ code (word n) ∷ []) (words ++ n ∷ []) news (seen_more is words n h))
           where
-            by : (b : Bool) → list_any (λ m. m == n) (old ∷ words) ≡ b
+            by : (b : Bool) → list_any (λ m. m == n) (old ∷ words) ≡ b → Behind is words news → Behind (is ++ code (word n) ∷ []) (words ++ n ∷ []) news
                 → (more : List ℕ) × (fold (with_word old) (if b then words else words ++ n ∷ []) news ≡ words ++ more)
                 × Leaves is (word n ∷ numbers (map (signed w) news)) (numbers (map (signed w) more))
-            by true e = let rest = words_left is words news h in (rest.0, rest.1, inl (h n e, rest.2))
-            by false e =
-                let rest = words_left (is ++ code (word n) ∷ []) (words ++ n ∷ []) news (seen_more is words n h) in
+            by true e rest other = (rest.0, rest.1, inl (h n e, rest.2))
+            by false e other rest =
                 (n ∷ rest.0, rest.1 ∙ append_assoc words (n ∷ []) rest.0, inr (numbers (map (signed w) rest.0), refl, rest.2))
 
       numbers_left : (k : Option TyScalar) (y : Opd) → s.kind t ≡ k → x ≡ y → Found (numbers (tried_numbers k y)) (numbers (new_numbers k y))
@@ -294,9 +299,10 @@ module _ (s : Setting) (a : Addresses) where
 
           seen : AreSeen w (word_of w z) (code o ∷ []) []
           seen n h = ⊎_elim
+              (λ g. cc)
               (λ g. let is : word_of w z ≡ n = (Decides-eqb (word_of w z) n).0 g in
               subst (λ m. IsAmong (code (f (opd.Number (signed w m)))) (code o ∷ [])) is (inl (alike (opd.Number (signed w (word_of w z))) (back ∙ sym old))))
-              (λ g. cc) (any_push (λ m. m == n) [] (word_of w z) h)
+              (any_push (λ m. m == n) [] (word_of w z) h)
 
           by : (b : Bool)
               → Found (numbers (if b then map (signed w) (tried_words w (word_of w z)) else [])) (numbers (if b then map (signed w) (new_words w (word_of w z)) else []))
@@ -341,20 +347,34 @@ module _ (s : Setting) (a : Addresses) where
     abbrev test : Bool
     test = same_operand (typed t x) (typed t y)
 
+    abbrev puts_first : List ℤ → List Op
+    puts_first zs = map (λ z. mk b (opd.Number z) y) zs
+
+    abbrev puts_second : List ℤ → List Op
+    puts_second zs = map (λ z. mk b x (opd.Number z)) zs
+
+    abbrev swap : List Op
+    swap = if test then [] else mk b y x ∷ []
+
     two_left : Found both
-        (map (λ k. mk k x y) ks ++ ((map (λ z. mk b (opd.Number z) y) (tried_numbers (s.kind t) x) ++ (map (λ z. mk b x (opd.Number z)) (tried_numbers (s.kind t) y) ++ []))
-        ++ (mk b y x ∷ [] ++ [])))
+        (map (λ k. mk k x y) ks ++ ((puts_first (tried_numbers (s.kind t) x) ++ (puts_second (tried_numbers (s.kind t) y) ++ [])) ++ (mk b y x ∷ [] ++ [])))
         (flat_map (λ k. if same b k then [] else mk k x y ∷ []) ks
-        ++ ((map (λ z. mk b (opd.Number z) y) (new_numbers (s.kind t) x) ++ (map (λ z. mk b x (opd.Number z)) (new_numbers (s.kind t) y) ++ []))
-        ++ ((if test then [] else mk b y x ∷ []) ++ [])))
+        ++ ((puts_first (new_numbers (s.kind t) x) ++ (puts_second (new_numbers (s.kind t) y) ++ [])) ++ (swap ++ [])))
     two_left =
         let I = code both ∷ [] in
+        let tx = puts_first (tried_numbers (s.kind t) x) in
+        let ty = puts_second (tried_numbers (s.kind t) y) in
+        let nx = puts_first (new_numbers (s.kind t) x) in
+        let ny = puts_second (new_numbers (s.kind t) y) in
         let first = all_numbers both t x (λ d. mk b d y) (λ d e. codes b d y ∙ ap (λ v. put b v (typed t y)) e ∙ sym (codes b x y)) in
         let second = all_numbers both t y (λ d. mk b x d) (λ d e. codes b x d ∙ ap (λ v. put b (typed t x) v) e ∙ sym (codes b x y)) in
-        let swap = one_left both test (mk b y x) (λ e. let k = operand_same (typed t x) (typed t y) e in
+        let swapped = one_left both test (mk b y x) (λ e. let k = operand_same (typed t x) (typed t y) e in
         codes b y x ∙ ap (λ v. put b v (typed t x)) (sym k) ∙ ap (λ v. put b (typed t x) v) k ∙ sym (codes b x y)) in
-        leaves_append I _ _ _ _ (others_left both (same b) (λ k. mk k x y) (λ k e. ap (λ l. code (mk l x y)) (sym (decides b k e))) ks)
-        (leaves_append I _ _ _ _ (leaves_append I _ _ _ _ first (leaves_append I _ [] _ [] second refl)) (leaves_append I _ [] _ [] swap refl))
+        leaves_append I (map (λ k. mk k x y) ks) ((tx ++ (ty ++ [])) ++ (mk b y x ∷ [] ++ [])) (flat_map (λ k. if same b k then [] else mk k x y ∷ []) ks)
+        ((nx ++ (ny ++ [])) ++ (swap ++ [])) (others_left both (same b) (λ k. mk k x y) (λ k e. ap (λ l. code (mk l x y)) (sym (decides b k e))) ks)
+        (leaves_append I (tx ++ (ty ++ [])) (mk b y x ∷ [] ++ []) (nx ++ (ny ++ [])) (swap ++ [])
+        (leaves_append I tx (ty ++ []) nx (ny ++ []) first (leaves_append I ty [] ny [] second refl))
+        (leaves_append I (mk b y x ∷ []) [] swap [] swapped refl))
 
   -- ---- arguments
 
@@ -373,7 +393,9 @@ module _ (s : Setting) (a : Addresses) where
   arguments_left t f xs k (v ∷ vs) there =
       let here : slice_get xs k ≡ Some v = ap (slice_get xs) (omega arith) ∙ there 0 v refl in
       let next : StandAt xs (k + 1) vs = λ i u e. ap (slice_get xs) (omega arith) ∙ there (suc i) u e in
-      leaves_append (code (op.Call t f xs) ∷ []) _ _ _ _
+      leaves_append (code (op.Call t f xs) ∷ []) (map (λ z. op.Call t f (with_argument xs k (opd.Number z))) (tried_numbers (s.kind v.0) v.1))
+      (tried_from s.kind (op.Call t f xs) (k + 1) vs) (map (λ z. op.Call t f (with_argument xs k (opd.Number z))) (new_numbers (s.kind v.0) v.1))
+      (constants_from s.kind (op.Call t f xs) (k + 1) vs)
       (all_numbers (op.Call t f xs) v.0 v.1 (λ d. op.Call t f (with_argument xs k d))
       (λ d e. ap (λ ys. instr.Call (callee_code s f (entity_of s f)) (map value_of ys)) (argument-is xs k v d here)
       ∙ ap (λ us. instr.Call (callee_code s f (entity_of s f)) us) (set_same xs k v d here e)))
@@ -388,7 +410,9 @@ module _ (s : Setting) (a : Addresses) where
       → Found o ((map (λ z. f (opd.Number z)) (tried_numbers (s.kind t) x) ++ []) ++ []) ((map (λ z. f (opd.Number z)) (new_numbers (s.kind t) x) ++ []) ++ [])
   value_left o t x f alike =
       let I = code o ∷ [] in
-      leaves_append I _ [] _ [] (leaves_append I _ [] _ [] (all_numbers o t x f alike) refl) refl
+      let tx = map (λ z. f (opd.Number z)) (tried_numbers (s.kind t) x) in
+      let nx = map (λ z. f (opd.Number z)) (new_numbers (s.kind t) x) in
+      leaves_append I (tx ++ []) [] (nx ++ []) [] (leaves_append I tx [] nx [] (all_numbers o t x f alike) refl) refl
 
   select_left : (c : TyText) (i : Opd) (t : TyText) (x : Opd) (u : TyText) (y : Opd) → Holds (op.Select c i t x u y)
   select_left c i t x u y =
@@ -400,7 +424,16 @@ module _ (s : Setting) (a : Addresses) where
       let swap = one_left o (same_operand (typed t x) (typed u y)) (op.Select c i u y t x) (λ e. let k = operand_same (typed t x) (typed u y) e in
       ap (λ v. put (typed c i) v (typed t x)) (sym k) ∙ ap (λ v. put (typed c i) (typed t x) v) k) in
       let flags = flags_left o c i (λ j. op.Select c j t x u y) (λ j. refl) (λ j e. ap (λ d. put d (typed t x) (typed u y)) (sym e)) in
-      leaves_append I _ _ _ _ (leaves_append I _ _ _ _ first (leaves_append I _ [] _ [] second refl)) (leaves_append I _ _ _ _ swap flags)
+      let tx = map (λ z. op.Select c i t (opd.Number z) u y) (tried_numbers (s.kind t) x) in
+      let ty = map (λ z. op.Select c i t x u (opd.Number z)) (tried_numbers (s.kind u) y) in
+      let nx = map (λ z. op.Select c i t (opd.Number z) u y) (new_numbers (s.kind t) x) in
+      let ny = map (λ z. op.Select c i t x u (opd.Number z)) (new_numbers (s.kind u) y) in
+      let sx = op.Select c i u y t x ∷ [] in
+      let sn = if same_operand (typed t x) (typed u y) then [] else op.Select c i u y t x ∷ [] in
+      let cx = op.Select c opd.True t x u y ∷ op.Select c opd.False t x u y ∷ [] in
+      let cn = condition_maker (code o) o in
+      leaves_append I (tx ++ (ty ++ [])) (sx ++ cx) (nx ++ (ny ++ [])) (sn ++ cn)
+      (leaves_append I tx (ty ++ []) nx (ny ++ []) first (leaves_append I ty [] ny [] second refl)) (leaves_append I sx cx sn cn swap flags)
 
   branch_left : (t : TyText) (c : Opd) (m n : Name) → Holds (op.Branch t c m n)
   branch_left t c m n =
@@ -410,7 +443,8 @@ module _ (s : Setting) (a : Addresses) where
       let swap = one_left o (block_code s m == block_code s n) (op.Branch t c n m) (λ e. let k = (Decides-eqb (block_code s m) (block_code s n)).0 e in
       ap (λ v. put (typed t c) v (block_code s m)) (sym k) ∙ ap (λ v. put (typed t c) (block_code s m) v) k) in
       let flags = flags_left o t c (λ j. op.Branch t j m n) (λ j. refl) (λ j e. ap (λ d. put d (block_code s m) (block_code s n)) (sym e)) in
-      leaves_append I _ _ _ _ swap flags
+      leaves_append I (op.Branch t c n m ∷ []) (op.Branch t opd.True m n ∷ op.Branch t opd.False m n ∷ [])
+      (if (block_code s m == block_code s n) then [] else op.Branch t c n m ∷ []) (condition_maker (code o) o) swap flags
 
   all_hold : (o : Op) → Holds o
   all_hold (op.Bin b t x y) = two_left same_operation operation_same (λ k x y. op.Bin k t x y) t (λ k v w. instr.Bin k (width_in s t) v w) (λ k x y. refl) operations b x y
@@ -424,7 +458,7 @@ module _ (s : Setting) (a : Addresses) where
   all_hold (op.Get of t x is) = refl
   all_hold (op.Phi t es) = refl
   all_hold (op.Call t f xs) =
-      leaves_append (code (op.Call t f xs) ∷ []) _ [] _ []
+      leaves_append (code (op.Call t f xs) ∷ []) (tried_from s.kind (op.Call t f xs) 0 xs) [] (constants_from s.kind (op.Call t f xs) 0 xs) []
       (arguments_left t f xs 0 xs (λ j v e. ap (slice_get xs) (omega arith) ∙ e)) refl
   all_hold (op.Jump n) = refl
   all_hold (op.Branch t c m n) = branch_left t c m n

@@ -49,7 +49,7 @@ use Rattle.mutant_maker_laws.proofs.Reading.{all-read}
 use Rattle.mutant_maker_laws.proofs.Names.{named, placed, first-laid, end-laid}
 
 -- these, as those of the mutants from a number on
-numbered : ℕ → List Asked → List Asked
+abbrev numbered : ℕ → List Asked → List Asked
 numbered n [] = []
 numbered n (r ∷ rs) = record { mutant = n; function = r.function; place = r.place; with = r.with } ∷ numbered (n + 1) rs
 

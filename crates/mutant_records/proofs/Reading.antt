@@ -13,7 +13,7 @@ use Rattle.code_form.specs.declared.instr.Instr.{Instr}
 use Rattle.ir_tokens.specs.Bytes.{Text}
 use Rattle.list_records.specs.Records.{Fields, Gave, AreRows, field_of, rows_of}
 use Rattle.list_records.proofs.Rows.{gave_front, rows_same}
-use Rattle.mutant_records.specs.Faults.{Faults, first_fault}
+use Rattle.list_records.specs.Faults.{Faults, first_fault}
 use Rattle.mutant_records.specs.Lists.{Behind, GivesUnless, GoesOn, IsShort, ListGives, Reading, RecordGives, RecordsGive, form_of, function_named_by, is_taken, made_of, mutant_called, mutant_named, number_called, place_called, place_faults, text_called}
 use Rattle.mutant_records.specs.Order.{AreInOrder, Follows}
 use Rattle.mutant_records.specs.Tables.{AllFit}

@@ -1,4 +1,3 @@
-pub mod Faults
 pub mod Lists
 pub mod Order
 pub mod Progress

@@ -12,7 +12,7 @@ use Rattle.code_form.specs.declared.code.Code.{Code}
 use Rattle.code_form.specs.declared.code.Func.{Func}
 use Rattle.function_names.specs.Names.{function_named}
 use Rattle.ir_tokens.specs.Bytes.{Text}
-use Rattle.mutant_records.specs.Faults.{Faults, first_fault}
+use Rattle.list_records.specs.Faults.{Faults, first_fault}
 use Rattle.list_records.specs.Numbers.{number_within}
 use Rattle.list_records.specs.Records.{Fields, Gave, field_of}
 use Rattle.mutant_records.specs.declared.error.MutantError.{MutantError}

@@ -22,8 +22,9 @@ use Rattle.list_records.specs.Records.{Fields, field_of}
 use Rattle.list_records.specs.declared.decimal.Decimal.{Decimal}
 use Rattle.test_suite.specs.Expected.{place_of, front_part, back_part, expected_output}
 use Rattle.test_suite.specs.Suite.{FitsSuite}
-use Rattle.test_suite.specs.Tests.{Faults, argument_of, arguments_in, arguments_of, budget_of, faults, first_fault, is_header, is_over_limit, names_of, number_called, prepend_some}
-use Rattle.test_suite.specs.Tests.{read_on, record_read, some_text, suite_of, suite_read, test_of, tests_read, unless}
+use Rattle.list_records.specs.Faults.{Faults, first_fault, read_on, unless}
+use Rattle.test_suite.specs.Tests.{argument_of, arguments_in, arguments_of, budget_of, faults, is_header, is_over_limit, names_of, number_called, prepend_some}
+use Rattle.test_suite.specs.Tests.{record_read, some_text, suite_of, suite_read, test_of, tests_read}
 use Rattle.test_suite.specs.declared.error.TestError.{TestError}
 use Rattle.test_suite.specs.declared.error.TestError.TheVariants as error
 use Rattle.test_suite.specs.declared.suite.Suite.{Suite}
@@ -86,11 +87,11 @@ arguments_fit (ty ∷ types) (Some text) words e =
 
 -- ---- a record without a fault
 
-abbrev AllFalse : Faults → Type 0
+abbrev AllFalse : Faults TestError → Type 0
 AllFalse [] = Unit {0}
 AllFalse (f ∷ more) = (f.0 ≡ false) × AllFalse more
 
-no_fault : (table : Faults) (made test : Test) → unless (first_fault table) made ≡ Ok test → AllFalse table × (made ≡ test)
+no_fault : (table : Faults TestError) (made test : Test) → unless (first_fault table) made ≡ Ok test → AllFalse table × (made ≡ test)
 no_fault [] made test e = (tt, cc)
 no_fault (f ∷ more) made test e = by f.0 refl (no_fault more made test) e
   where

@@ -9,7 +9,8 @@ use Rattle.code_form.specs.declared.code.Code.{Code}
 use Rattle.list_records.specs.Records.{Fields, Gave, AreRows, rows_of}
 use Rattle.list_records.proofs.Rows.{gave_front, rows_same}
 use Rattle.ir_tokens.specs.Bytes.{Text}
-use Rattle.test_suite.specs.Tests.{names_of, is_header, read_on, record_read, tests_read, suite_of, suite_read}
+use Rattle.list_records.specs.Faults.{read_on}
+use Rattle.test_suite.specs.Tests.{names_of, is_header, record_read, tests_read, suite_of, suite_read}
 use Rattle.test_suite.specs.declared.error.TestError.{TestError}
 use Rattle.test_suite.specs.declared.error.TestError.TheVariants as error
 use Rattle.test_suite.specs.declared.suite.Suite.{Suite}

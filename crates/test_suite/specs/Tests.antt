@@ -14,6 +14,7 @@ use Rattle.code_form.specs.declared.code.TyScalar.{TyScalar}
 use Rattle.code_form.specs.declared.code.TyScalar.TheVariants.{Int, Ptr}
 use Rattle.function_names.specs.Names.{function_named}
 use Rattle.ir_tokens.specs.Bytes.{Text}
+use Rattle.list_records.specs.Faults.{Faults, first_fault, read_on, unless}
 use Rattle.list_records.specs.Numbers.{number_within, word_within}
 use Rattle.list_records.specs.Records.{Fields, field_of}
 use Rattle.test_suite.specs.Expected.{place_of, front_part, back_part, expected_ending, expected_output, outcome_of}
@@ -70,20 +71,13 @@ budget_of default text = if length text == 0 then Some default else number_withi
 
 -- ---- the faults of a record: each with whether the record has it, in the order in which they count
 
-abbrev pub Faults : Type 0
-Faults = List (Bool × TestError)
-
-abbrev pub first_fault : Faults → Option TestError
-first_fault [] = None
-first_fault (f ∷ faults) = if f.0 then Some f.1 else first_fault faults
-
 -- more tests, input or output than the limits allow
 abbrev pub is_over_limit : ℕ → Fields → Bool
 is_over_limit number fields =
     nat_lt MAX_TESTS number || nat_lt MAX_INPUT_BYTES (length (field_of fields 3)) || nat_lt MAX_OUTPUT_BYTES (length (expected_output (field_of fields 5)))
 
 -- of the fields behind the function's name
-abbrev pub case_faults : Func → ℕ → ℕ → Fields → Faults
+abbrev pub case_faults : Func → ℕ → ℕ → Fields → Faults TestError
 case_faults f default number fields =
     (is_none (arguments_of f.params (field_of fields 2)), error.Arguments number)
     ∷ (is_none (budget_of default (field_of fields 4)), error.Budget number)
@@ -95,13 +89,13 @@ abbrev pub number_called : Code → Fields → ℕ
 number_called code fields = unwrap_or (function_named code (field_of fields 1)) 0
 
 -- of the fields from the function's name on
-abbrev pub call_faults : Code → ℕ → ℕ → Fields → Faults
+abbrev pub call_faults : Code → ℕ → ℕ → Fields → Faults TestError
 call_faults code default number fields =
     (is_none (function_named code (field_of fields 1)), error.UnknownFunction number)
     ∷ case_faults (function_at code (number_called code fields)) default number fields
 
 -- of all fields, behind tests with these names
-abbrev pub faults : Code → ℕ → List Text → ℕ → Fields → Faults
+abbrev pub faults : Code → ℕ → List Text → ℕ → Fields → Faults TestError
 faults code default names number fields =
     (not (length fields == 6), error.Lengths number)
     ∷ (not (is_test_name (field_of fields 0)), error.Name number)
@@ -123,10 +117,6 @@ abbrev pub test_of : ℕ → Func → ℕ → Fields → Test
 test_of function f default fields = test_made function (unwrap_or (arguments_of f.params (field_of fields 2)) [])
     (unwrap_or (budget_of default (field_of fields 4)) default) (unwrap_or (expected_ending f.result (field_of fields 5)) None) fields
 
-abbrev pub unless : Option TestError → Test → Result Test TestError
-unless None test = Ok test
-unless (Some error) test = Err error
-
 -- what a record gives by its fields behind the function's name, and by those from the function's name on
 abbrev pub case_read : Func → ℕ → ℕ → ℕ → Fields → Result Test TestError
 case_read f function default number fields = unless (first_fault (case_faults f default number fields)) (test_of function f default fields)
@@ -139,10 +129,6 @@ call_read code default number fields =
 abbrev pub record_read : Code → ℕ → List Text → ℕ → Fields → Result Test TestError
 record_read code default names number fields =
     unless (first_fault (faults code default names number fields)) (test_of (number_called code fields) (function_at code (number_called code fields)) default fields)
-
-abbrev pub read_on : {A B : Type 0} → Result A TestError → (A → Result B TestError) → Result B TestError
-read_on (Ok x) more = more x
-read_on (Err error) more = Err error
 
 abbrev pub names_of : List Test → List Text
 names_of tests = map (λ (test : Test). test.name) tests

@@ -1,11 +1,10 @@
 -- One more of the parts of a text.
 use Rattle.std.proofs.Common.{◌≡◌, ◌<◌, ℕ, zero, suc, ◌+◌, ◌++◌, ◌∷◌, [], List, flat_map, take, length, get_or, ap, ◌∙◌, arith, add-one}
-use Rattle.std.specs.Prelude.{decimal}
 use Rattle.std.specs.List.{range_with_len}
-use Rattle.std.proofs.lemmas.List.{take_more}
 use Rattle.std.proofs.lemmas.Grind.{flat_map-append, common_steps}
 use Rattle.test_suite.specs.declared.suite.Test.{Test}
 use Rattle.exec_core.specs.declared.result.Split.{Split}
+use Rattle.line_parts.proofs.MoreParts.{flat_more}
 use Rattle.work_report.specs.Report.{each_below, split_line}
 
 range_more : (a n j : ℕ) → a + n ≡ j → range_with_len a (suc n) ≡ range_with_len a n ++ j ∷ []
@@ -18,10 +17,6 @@ each_more f n =
     let split = flat_map-append f (range_with_len 0 n) (n ∷ []) in
     rw add-one (one ∙ split ∙ grind (arith, common_steps))
 
-flat_more : {A : Type 0} (f : A → List ℕ) (xs : List A) (i : ℕ) (x : A) → i < length xs → x ≡ get_or xs i x
-    → flat_map f (take (i + 1) xs) ≡ flat_map f (take i xs) ++ f x
-flat_more f xs i x h e = rw (take_more xs i x h, ← e, flat_map-append) (grind (arith, common_steps))
-
 pub names_more : (tests : List Test) (i : ℕ) (test : Test) → i < length tests → test ≡ get_or tests i test
     → flat_map (λ t. 44 ∷ t.name) (take (i + 1) tests) ≡ flat_map (λ t. 44 ∷ t.name) (take i tests) ++ 44 ∷ test.name
 names_more tests i test h e = flat_more (λ t. 44 ∷ t.name) tests i test h e
@@ -29,7 +24,3 @@ names_more tests i test h e = flat_more (λ t. 44 ∷ t.name) tests i test h e
 pub splits_more : (name : List ℕ) (splits : List Split) (i : ℕ) (split : Split) → i < length splits → split ≡ get_or splits i split
     → flat_map (split_line name) (take (i + 1) splits) ≡ flat_map (split_line name) (take i splits) ++ split_line name split
 splits_more name splits i split h e = flat_more (split_line name) splits i split h e
-
-pub blanks_more : (ns : List ℕ) (i : ℕ) → i < length ns → flat_map (λ k. 32 ∷ decimal k) (take (i + 1) ns) ≡ flat_map (λ k. 32 ∷ decimal k) (take i ns) ++ 32
-    ∷ decimal (get_or ns i 0)
-blanks_more ns i h = rw (take_more ns i 0 h, flat_map-append) (grind (arith, common_steps))

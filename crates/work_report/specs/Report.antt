@@ -1,11 +1,12 @@
 -- The lines of a report.
-use Rattle.std.specs.Prelude.{ℕ, ◌+◌, ◌-◌, ◌<◌, ◌^◌, List, [], ◌∷◌, ◌++◌, codes, decimal, length, map, flat_map, sum, slice_get, unwrap_or, if◌then◌else◌, Option, None, Some}
+use Rattle.std.specs.Prelude.{ℕ, ◌-◌, ◌<◌, ◌^◌, List, [], ◌∷◌, ◌++◌, codes, decimal, length, map, flat_map, sum, slice_get, unwrap_or, if◌then◌else◌, Option, None, Some}
 use Rattle.std.specs.List.{range_with_len}
 use Rattle.test_suite.specs.declared.suite.Suite.{Suite}
 use Rattle.kill_matrix.specs.Score.{Letters, letter_of, killed_of}
 use Rattle.kill_matrix.specs.Verdict.{byte_of}
 use Rattle.exec_core.specs.declared.result.Work.{Work}
 use Rattle.exec_core.specs.declared.result.Split.{Split}
+use Rattle.line_parts.specs.Parts.{spaced}
 
 -- what f gives for the numbers 0, 1, .., n - 1, one after another
 abbrev pub each_below : (ℕ → List ℕ) → ℕ → List ℕ
@@ -64,11 +65,6 @@ total_line works = codes "total" ++ work_fields (total_of works)
 -- the work lines of the tests and the total line
 abbrev pub work_text : Suite → List Work → List ℕ
 work_text suite works = each_below (work_line suite works) (length works) ++ total_line works
-
--- numbers separated by one blank
-abbrev pub spaced : List ℕ → List ℕ
-spaced [] = []
-spaced (n ∷ ns) = decimal n ++ flat_map (λ k. 32 ∷ decimal k) ns
 
 -- `split`, the name of a test, the step, and the least member of each part
 abbrev pub split_line : List ℕ → Split → List ℕ

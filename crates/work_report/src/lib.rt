@@ -2,13 +2,13 @@
 #![tactic(auto)]
 
 mod load;
-mod numbers;
+mod names;
 mod score;
 mod splits;
 mod text;
 mod works;
 
 pub use load::summary;
-pub use numbers::name_of;
+pub use names::name_of;
 pub use score::{put_score, score_text};
 pub use text::report;

@@ -4,13 +4,13 @@ ghost use Rattle.std.specs.Prelude.{◌≡◌, ◌++◌, ◌∷◌, codes, decim
 ghost use Rattle.work_report.specs.Report.{FitsWords, load_line, total_of};
 ghost use Rattle.work_report.specs.Report as spec;
 
-use crate::numbers::put_number;
 use crate::score::put_score;
 use crate::works::put_works;
 use am_base::OutOfMemory;
 use am_lists::Bytes;
 use exec_core::Work;
 use kill_matrix::Matrix;
+use line_parts::put_number;
 use std::alloc::Global;
 use test_suite::Suite;
 

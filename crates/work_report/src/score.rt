@@ -6,10 +6,10 @@ ghost use Rattle.kill_matrix.specs.Verdict.{byte_of};
 ghost use Rattle.work_report.specs.Report.{each_below, mutant_line, score_line};
 ghost use Rattle.work_report.specs.Report as spec;
 
-use crate::numbers::{put_after, put_number};
 use am_base::OutOfMemory;
 use am_lists::Bytes;
 use kill_matrix::Matrix;
+use line_parts::{put_after, put_number};
 use std::alloc::Global;
 use test_suite::{Suite, Test};
 

@@ -1,37 +1,14 @@
 //! The lines of the splits.
 
 ghost use Rattle.std.specs.Prelude.{◌≡◌, ◌++◌, ◌∷◌, [], decimal, flat_map, slice_get, unwrap_or, OnOk, Some};
-ghost use Rattle.work_report.specs.Report.{spaced, split_line, split_lines, split_text};
+ghost use Rattle.work_report.specs.Report.{split_line, split_lines, split_text};
 
-use crate::numbers::{name_of, put_after, put_number};
+use crate::names::name_of;
 use am_base::OutOfMemory;
 use am_lists::{Bytes, Items};
 use exec_core::Split;
+use line_parts::{put_after, put_spaced};
 use test_suite::Suite;
-
-/// Appends each number behind a blank.
-#[tactic(auto, using(crate::proofs::MoreLines::blanks_more))]
-fn put_blanks(out: &mut Bytes, numbers: &[u32]) -> Result<(), OutOfMemory>
-    ensures { OnOk result (out.new ≡ out.old ++ flat_map (λ k. 32 ∷ decimal k) numbers.now) }
-{
-    'numbers: for n in numbers {
-        put_after(out, b' ', *n as u64)?;
-    }
-    Ok(())
-}
-
-/// Appends numbers separated by one blank.
-fn put_spaced(out: &mut Bytes, numbers: &[u32]) -> Result<(), OutOfMemory>
-    ensures { OnOk result (out.new ≡ out.old ++ spaced numbers.now) }
-{
-    match numbers {
-        [] => Ok(()),
-        [first, rest @ ..] => {
-            put_number(out, *first as u64)?;
-            put_blanks(out, rest)
-        }
-    }
-}
 
 fn put_split(out: &mut Bytes, name: &[u8], split: &Split) -> Result<(), OutOfMemory>
     ensures { OnOk result (out.new ≡ out.old ++ split_line name.now split.now) }

@@ -4,10 +4,11 @@ ghost use Rattle.std.specs.Prelude.{◌≡◌, ◌<◌, ◌^◌, ◌++◌, lengt
 ghost use Rattle.work_report.specs.Report.{each_below, work_fields, no_work, work_line, FitsWords, work_text};
 ghost use Rattle.work_report.specs.Report as spec;
 
-use crate::numbers::{name_of, put_after};
+use crate::names::name_of;
 use am_base::OutOfMemory;
 use am_lists::Bytes;
 use exec_core::Work;
+use line_parts::put_after;
 use test_suite::Suite;
 
 /// Appends the four numbers of work and the end of the line.

@@ -13,7 +13,7 @@ use Rattle.ir_module.specs.declared.parts.Parts.{Parts}
 use Rattle.ir_module.specs.Parts.{with_code, CanCode}
 use Rattle.ir_module.proofs.Turns.{IsSoFar, goes-on, can-code, dropped, there, frame-at, passes}
 use Rattle.ir_module.proofs.Turns as turns
-use Rattle.ir_module.proofs.module.parts_of.Goals as goal
+use Rattle.ir_module.proofs.module.add_items.Goals as goal
 
 pub each-init : goal.each-init
 each-init c =
@@ -21,9 +21,9 @@ each-init c =
     let signs = c.args.tables.now.ports.now in
     let kind = kind_in c.args.tables.now.kinds.now.names in
     record {
-      stands = subst (λ (f : Frame). Stands kind items 0 false f) (sym c.closed_frame-frame.ensures) (begun kind items);
+      stands = subst (λ (f : Frame). Stands kind items 0 false f) (sym c.requires.frame) (begun kind items);
       defs = c.requires.types;
-      so_far = subst (λ (p : Parts). IsSoFar items signs 0 p) (sym c.nothing-parts.ensures) (turns.begun items signs);
+      so_far = subst (λ (p : Parts). IsSoFar items signs 0 p) (sym c.requires.parts) (turns.begun items signs);
     }
 
 pub add_item-requires-clause-can : goal.add_item-requires-clause-can

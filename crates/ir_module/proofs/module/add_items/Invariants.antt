@@ -3,7 +3,7 @@ use Rattle.ir_rules.specs.Types.{type_defs}
 use Rattle.ir_scopes.specs.Kinds.{kind_in}
 use Rattle.ir_pass.proofs.Heads.{Stands}
 use Rattle.ir_module.proofs.Turns.{IsSoFar}
-use Rattle.ir_module.proofs.module.parts_of.Given as goal
+use Rattle.ir_module.proofs.module.add_items.Given as goal
 
 abbrev pub invariant-each : goal.invariant-each
 invariant-each l = record {
