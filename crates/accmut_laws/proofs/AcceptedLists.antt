@@ -10,7 +10,7 @@ use Rattle.code_form.proofs.Lists.{at-push}
 use Rattle.ir_tokens.specs.Bytes.{Text}
 use Rattle.list_records.specs.Numbers.{number_within}
 use Rattle.list_records.specs.Records.{Fields, field_of, rows_of}
-use Rattle.mutant_records.specs.Faults.{first_fault}
+use Rattle.list_records.specs.Faults.{first_fault}
 use Rattle.mutant_records.specs.Lists.{Behind, GivesUnless, GoesOn, ListGives, Reading, RecordGives, RecordsGive, form_of, if_taken, last_mutant, made_of, mutant_named, number_called, place_called, place_faults, places_of, takes, text_called}
 use Rattle.mutant_records.specs.Order.{AreInOrder, Follows}
 use Rattle.mutant_records.specs.declared.error.MutantError.{MutantError}
