@@ -7,6 +7,3 @@ mod program;
 mod said;
 
 pub use program::run_program;
-
-#[cfg(test)]
-mod tests;
