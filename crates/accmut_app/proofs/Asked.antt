@@ -2,7 +2,7 @@
 use Rattle.std.proofs.Common.{◌≡◌, ℕ, List, [], Bool, true, false, if◌then◌else◌, Option, Some, None, refl, sym, ap, ◌∙◌}
 use Rattle.command_words.specs.Words.{Text, wanted}
 use Rattle.command_words.specs.declared.command.Command.{Command}
-use Rattle.command_words.specs.declared.command.Command.TheVariants.{Run, Check, Make, Alone, Groups, Load}
+use Rattle.command_words.specs.declared.command.Command.TheVariants.{Run, Check, Make, Alone, Groups, Reduce, Load}
 use Rattle.accmut_app.specs.Commands.{has_picker, with_picker, names_of}
 
 module _ (names : List Text) (o : Option (Command Text)) where
@@ -21,4 +21,5 @@ names_none (Make name) e = absurd (cc e)
 names_none (Run files budget order splits) e = absurd (cc e)
 names_none (Alone files mutant test budget) e = absurd (cc e)
 names_none (Groups files test step budget order) e = absurd (cc e)
+names_none (Reduce files budget order) e = absurd (cc e)
 names_none (Load number) e = (number, refl)

@@ -5,10 +5,10 @@ use Rattle.am_base.specs.Files.{Files}
 use Rattle.am_base.specs.Text.{Written}
 use Rattle.code_form.specs.declared.sign.PortSign.{PortSign}
 use Rattle.ports.specs.Asks.{answers_in}
-use Rattle.work_report.specs.declared.show.Show.TheVariants.{Report}
+use Rattle.suite_analysis.specs.declared.show.Show.TheVariants.{Report, Reduced}
 use Rattle.command_words.specs.Words.{Text}
 use Rattle.command_words.specs.declared.command.Command.{Command}
-use Rattle.command_words.specs.declared.command.Command.TheVariants.{Run, Check, Make, Alone, Groups, Load}
+use Rattle.command_words.specs.declared.command.Command.TheVariants.{Run, Check, Make, Alone, Groups, Reduce, Load}
 use Rattle.command_plan.specs.declared.status.Status.{Status}
 use Rattle.command_plan.specs.declared.status.Status.TheVariants as status
 use Rattle.command_plan.specs.Plan.{Counts}
@@ -30,6 +30,8 @@ module _ (signs : List PortSign) (answers : List (List ℕ → Option ℕ)) wher
       alone_sharp signs (answers_in answers) (steps_of budget) files.module files.mutants files.tests (record { mutant = mutant; test = test })
   plan_sharp (Groups files test step budget order) =
       groups_sharp signs (answers_in answers) (steps_of budget) files.module files.mutants files.tests (record { test = test; step = step })
+  plan_sharp (Reduce files budget order) =
+      run_sharp signs (answers_in answers) (steps_of budget) files.module files.mutants files.tests Reduced
   plan_sharp (Load number) = load_sharp number
 
   pub plan_named : (c : Command Text) → AreNames (names_of c) (plan_of signs answers c)
@@ -41,6 +43,8 @@ module _ (signs : List PortSign) (answers : List (List ℕ → Option ℕ)) wher
       alone_named signs (answers_in answers) (steps_of budget) files.module files.mutants files.tests (record { mutant = mutant; test = test })
   plan_named (Groups files test step budget order) =
       groups_named signs (answers_in answers) (steps_of budget) files.module files.mutants files.tests (record { test = test; step = step })
+  plan_named (Reduce files budget order) =
+      run_named signs (answers_in answers) (steps_of budget) files.module files.mutants files.tests Reduced
   plan_named (Load number) = load_named number
 
   pub status_due : (c : Command Text) (held : List ℕ → Option (List ℕ)) (files : Files) (Faulty : List ℕ → Type 0) (old new : Counts)

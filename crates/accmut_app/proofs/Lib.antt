@@ -3,3 +3,4 @@ mod Called
 pub mod Due
 mod FoundAnswers
 mod Picked
+mod Viewed

@@ -12,10 +12,10 @@ use Rattle.code_form.specs.declared.sign.PortSign.{PortSign}
 use Rattle.ports.specs.Asks.{answers_in}
 use Rattle.command_words.specs.Words.{Text, command_of, wanted}
 use Rattle.command_words.specs.declared.command.Command.{Command}
-use Rattle.command_words.specs.declared.command.Command.TheVariants.{Run, Check, Make, Alone, Groups, Load}
+use Rattle.command_words.specs.declared.command.Command.TheVariants.{Run, Check, Make, Alone, Groups, Reduce, Load}
 use Rattle.command_words.specs.declared.command.Files.{Files}
 use Rattle.command_plan.specs.Plan.{Plan}
-use Rattle.work_report.specs.declared.show.Show.TheVariants.{Report}
+use Rattle.suite_analysis.specs.declared.show.Show.TheVariants.{Report, Reduced}
 use Rattle.commands.specs.Plans.{check_plan, make_plan, alone_plan, run_plan, groups_plan, load_plan}
 
 abbrev pub is_among : List Text → Text → Bool
@@ -48,6 +48,8 @@ plan_of signs answers (Alone files mutant test budget) =
 plan_of signs answers (Groups files test step budget order) =
     groups_plan signs (answers_in answers) (steps_of budget) files.module files.mutants files.tests
     (record { test = test; step = step })
+plan_of signs answers (Reduce files budget order) =
+    run_plan signs (answers_in answers) (steps_of budget) files.module files.mutants files.tests Reduced
 plan_of signs answers (Load number) = load_plan number
 
 abbrev pub names_in : Files Text → List Text
@@ -59,6 +61,7 @@ names_of (Make name) = name ∷ []
 names_of (Run files budget order splits) = names_in files
 names_of (Alone files mutant test budget) = names_in files
 names_of (Groups files test step budget order) = names_in files
+names_of (Reduce files budget order) = names_in files
 names_of (Load number) = []
 
 abbrev pub names_asked : Option (Command Text) → List Text

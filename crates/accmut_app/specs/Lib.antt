@@ -1,2 +1,4 @@
 pub mod Commands
 pub mod Call
+pub mod ViewWords
+pub mod View

@@ -21,6 +21,7 @@ use exec_core::Meter;
 use flat_machine::Ports;
 use picker::Picker;
 use std::alloc::Global;
+use suite_analysis::Show;
 
 /// Carries out a command that wants no picker. It meters no step.
 pub(crate) fn without_picker<F: Shelf, K: Sink, P: Ports>(
@@ -58,7 +59,10 @@ pub(crate) fn without_picker<F: Shelf, K: Sink, P: Ports>(
             let wanted = Wanted { mutant, test };
             alone_written(alloc, shelf, sink, files, budget, wanted, ports)
         }
-        Command::Run { .. } | Command::Groups { .. } | Command::Load { .. } => unreachable!(),
+        Command::Run { .. }
+        | Command::Groups { .. }
+        | Command::Reduce { .. }
+        | Command::Load { .. } => unreachable!(),
     }
 }
 
@@ -99,9 +103,20 @@ pub(crate) fn with_picker<F: Shelf, K: Sink, P: Ports>(
             budget,
             splits,
             ..
-        } => run_written(
-            alloc, shelf, sink, files, budget, splits, ports, picker, meter,
-        ),
+        } => {
+            let show = Show::Report {
+                with_splits: splits,
+            };
+            run_written(
+                alloc, shelf, sink, files, budget, show, ports, picker, meter,
+            )
+        }
+        Command::Reduce { files, budget, .. } => {
+            let show = Show::Reduced;
+            run_written(
+                alloc, shelf, sink, files, budget, show, ports, picker, meter,
+            )
+        }
         Command::Groups {
             files,
             test,

@@ -17,7 +17,7 @@ use std::alloc::Global;
 use std::mem;
 
 /// Carries out what the words after the program's name ask for: `run`, `check`, `make`, `alone`,
-/// `groups` or `load`, as `command_words::command_of` reads them. `Usage` comes iff they are no
+/// `groups`, `reduce` or `load`, as `command_words::command_of` reads them. `Usage` comes iff they are no
 /// command, or the picker that the command wants isn't among `pickers`; then nothing is written and
 /// no count rises.
 ///

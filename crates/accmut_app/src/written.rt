@@ -4,7 +4,6 @@ ghost use Rattle.std.specs.Prelude.{◌≡◌, ℕ, ◌+◌, ◌≤◌, ◌<◌,
 ghost use Rattle.am_base.specs.Cause.{Rose};
 ghost use Rattle.am_base.specs.Files.{Files as AllFiles};
 ghost use Rattle.ports.specs.Asks.{answers_in, asked_in};
-ghost use Rattle.work_report.specs.declared.show.Show.TheVariants.{Report};
 ghost use Rattle.command_words.specs.Words.{IsBudget};
 ghost use Rattle.command_plan.specs.Answer.{IsAnswer};
 ghost use Rattle.commands.specs.Alone.{counts_of};
@@ -21,7 +20,7 @@ use exec_core::Meter;
 use flat_machine::Ports;
 use picker::Picker;
 use std::alloc::Global;
-use work_report::Show;
+use suite_analysis::Show;
 
 /// The budget of tests that state none, in steps.
 fn budget_or_default(budget: Option<u64>) -> u64
@@ -132,14 +131,14 @@ pub(crate) fn alone_written<F: Shelf, K: Sink, P: Ports>(
     }
 }
 
-/// Carries out `run`, and gives the ports back.
+/// Carries out `run` or `reduce`, and gives the ports back.
 pub(crate) fn run_written<F: Shelf, K: Sink, P: Ports>(
     alloc: Global,
     shelf: &mut F,
     sink: &mut K,
     files: Files<&str>,
     budget: Option<u64>,
-    with_splits: bool,
+    show: Show,
     ports: P,
     picker: &mut Box<dyn Picker>,
     meter: &mut Meter,
@@ -151,7 +150,7 @@ pub(crate) fn run_written<F: Shelf, K: Sink, P: Ports>(
     ensures answer { IsAnswer (F.files shelf.old) (λ name. Rose (F.faults shelf.old name) (F.faults shelf.new name))
         (run_plan (P.outside ports).signs (answers_in (P.outside ports).answers)
         (steps_of budget) files.entry.module.now files.entry.mutants.now
-        files.entry.tests.now (Report with_splits))
+        files.entry.tests.now show)
         (counts_of meter.old (asked_in (P.outside ports).asked))
         (counts_of meter.new (asked_in (P.outside result.0).asked))
         (K.written sink.old) (K.written sink.new) (Rose (K.faults sink.old) (K.faults sink.new)) result.1 }
@@ -171,7 +170,7 @@ pub(crate) fn run_written<F: Shelf, K: Sink, P: Ports>(
                 files.mutants,
                 files.tests,
                 budget_or_default(budget),
-                Show::Report { with_splits },
+                show,
                 signs.as_slice(),
                 ports,
                 picker,

@@ -5,5 +5,7 @@
 mod adapters;
 mod program;
 mod said;
+mod view;
 
 pub use program::run_program;
+pub use view::run_view;

@@ -5,6 +5,7 @@ use crate::said::say;
 use accmut_app::{Status, accmut};
 use am_base::OutOfMemory;
 use exec_core::Meter;
+use explanations::Program;
 use picker::{BreadthFirst, DepthFirst, Picker, SmallestFirst};
 use ports::{Abs, IsDigit, IsSpace, Labs, Port};
 use std::env;
@@ -12,7 +13,7 @@ use std::process::ExitCode;
 use std::rt::{Env, Files};
 
 /// The words after the program's name.
-fn words<R: Env + AllocGlobal>(rt: &R) -> Result<Vec<String>, OutOfMemory> {
+pub(crate) fn words<R: Env + AllocGlobal>(rt: &R) -> Result<Vec<String>, OutOfMemory> {
     let Ok(args) = env::args(rt) else {
         return Err(OutOfMemory);
     };
@@ -48,11 +49,11 @@ fn run<R: Files + Print + AllocGlobal>(
 /// program fails, is told on standard error. Want of memory for what is made here is status 7.
 pub fn run_program<R: Env + Files + Print + Eprint + AllocGlobal>(rt: &R) -> ExitCode {
     let Ok(words) = words(rt) else {
-        say(rt, &[], Status::OutOfMemory, b"");
+        say(rt, Program::Accmut, &[], Status::OutOfMemory, b"");
         return ExitCode::from(Status::OutOfMemory.number());
     };
     let mut sink = StdoutSink::new(rt, rt.alloc());
     let status = run(rt, words.as_slice(), &mut sink).unwrap_or(Status::OutOfMemory);
-    say(rt, words.as_slice(), status, sink.front());
+    say(rt, Program::Accmut, words.as_slice(), status, sink.front());
     ExitCode::from(status.number())
 }

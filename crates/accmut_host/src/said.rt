@@ -4,7 +4,7 @@ use crate::adapters::read_once;
 use accmut_app::Status;
 use am_base::MAX_FILE_BYTES;
 use explanations::{
-    COMMANDS, Refusal, about_module, about_mutants, about_tests, line_at, line_of_record,
+    Program, Refusal, about_module, about_mutants, about_tests, line_at, line_of_record,
     refusal_of, wrong_word,
 };
 use std::fs;
@@ -17,26 +17,28 @@ const SHOWN_BYTES: usize = 200;
 /// standard output got; and on Done which tests the unchanged program fails.
 pub fn say<R: Files + Eprint + AllocGlobal>(
     rt: &R,
+    program: Program,
     words: &[String],
     status: Status,
     front: &[u8],
 ) {
     let text = str::from_utf8(front).unwrap_or("");
+    let name = program.name();
     match status {
         Status::Done => say_failing(rt, text),
-        Status::Usage => say_usage(rt, word(words, 0)),
+        Status::Usage => say_usage(rt, program, word(words, 0)),
         Status::ModuleRefused | Status::MutantsRefused | Status::TestsRefused => {
             say_refusal(rt, words, text)
         }
-        Status::ReadFault | Status::TooLong => say_file(rt, words),
+        Status::ReadFault | Status::TooLong => say_file(rt, program, words),
         Status::WriteFault => {
-            let _ = eprintln!(rt; "accmut: standard output could not be written");
+            let _ = eprintln!(rt; "{name}: standard output could not be written");
         }
         Status::OutOfMemory => {
-            let _ = eprintln!(rt; "accmut: memory ran out");
+            let _ = eprintln!(rt; "{name}: memory ran out");
         }
         Status::TooMany => {
-            let _ = eprintln!(rt; "accmut: the list would have more than 65,535 mutants");
+            let _ = eprintln!(rt; "{name}: the list would have more than 65,535 mutants");
         }
     }
 }
@@ -50,11 +52,12 @@ fn word(words: &[String], at: usize) -> &str {
 }
 
 /// Says what the commands are.
-fn say_usage<R: Eprint>(rt: &R, first: &str) {
-    if let Some(wrong) = wrong_word(first) {
-        let _ = eprintln!(rt; "accmut: {wrong}: {first:?}");
+fn say_usage<R: Eprint>(rt: &R, program: Program, first: &str) {
+    let (name, commands) = (program.name(), program.commands());
+    if let Some(wrong) = wrong_word(program, first) {
+        let _ = eprintln!(rt; "{name}: {wrong}: {first:?}");
     }
-    let _ = eprintln!(rt; "accmut: {COMMANDS}");
+    let _ = eprintln!(rt; "{name}: {commands}");
 }
 
 /// Says which tests the unchanged program fails, by the first two lines of a report: the names of
@@ -144,13 +147,14 @@ fn show_line<R: Files + Eprint + AllocGlobal>(rt: &R, name: &str, number: u64) {
 }
 
 /// Says which of the named files can't be read, or is too long.
-fn say_file<R: Files + Eprint + AllocGlobal>(rt: &R, words: &[String]) {
+fn say_file<R: Files + Eprint + AllocGlobal>(rt: &R, program: Program, words: &[String]) {
     'files: for name in words.iter().skip(1).take(3) {
         if say_fault(rt, name.as_str()) {
             return;
         }
     }
-    let _ = eprintln!(rt; "accmut: a file could not be read");
+    let name = program.name();
+    let _ = eprintln!(rt; "{name}: a file could not be read");
 }
 
 /// Says why a file can't be read, or that it is too long, and whether that is so.

@@ -1,4 +1,4 @@
--- An accepted list of mutants: its replacements stand in the order of their mutants, and each mutant has one to four at different places.
+-- An accepted list of mutants: its replacements are in the order of their mutants, and each mutant has one to four at different places.
 use Rattle.std.proofs.Common.{◌≡◌, ◌≢◌, ℕ, zero, suc, ◌+◌, ◌==◌, ◌<◌, ◌≤◌, nat_lt, Bool, true, false, ◌||◌, if◌then◌else◌, List, [], ◌∷◌, ◌++◌, length}
 use Rattle.std.proofs.Common.{Option, Some, None, Result, Ok, Err, slice_get, unwrap_or, refl, sym, ap, subst, ◌∙◌, arith, length-append, ⊎_elim}
 use Rattle.std.proofs.lemmas.Bool.{cases_eq, eq-eqb, true≢false}
@@ -121,7 +121,9 @@ record_mutant code Is form all number fields made g = by (first_fault (place_fau
     by : (o : Option MutantError)
         → GivesUnless o Is (mutant_named form all number fields) (number_called code form fields) (unwrap_or (place_called code form fields) 0) number
         (text_called form fields) (Ok made) → made.mutant ≡ mutant_named form all number fields
-    by None h = made_mutant (mutant_named form all number fields) (number_called code form fields) (unwrap_or (place_called code form fields) 0) number h.0 made h.2
+    by None h =
+        let place = unwrap_or (place_called code form fields) 0 in
+        made_mutant (mutant_named form all number fields) (number_called code form fields) place number h.0 made h.2
     by (Some error) h = cc
 
 numbered_next : (all : List Made) (number : ℕ) (fields : Fields) → mutant_named Numbered all number fields ≤ last_mutant all + 1

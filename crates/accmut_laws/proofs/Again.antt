@@ -6,7 +6,7 @@ use Rattle.am_base.specs.Text.{appended}
 use Rattle.code_form.specs.declared.sign.PortSign.{PortSign}
 use Rattle.command_words.specs.Words.{Text}
 use Rattle.command_words.specs.declared.command.Command.{Command}
-use Rattle.command_words.specs.declared.command.Command.TheVariants.{Run, Check, Make, Alone, Groups, Load}
+use Rattle.command_words.specs.declared.command.Command.TheVariants.{Run, Check, Make, Alone, Groups, Reduce, Load}
 use Rattle.command_plan.specs.declared.status.Status.TheVariants.{Done}
 use Rattle.command_plan.specs.Answer.{RiseBy}
 use Rattle.command_plan.specs.Ends.{End, Ends, Text as Whole}
@@ -24,6 +24,7 @@ module _ (files : Files) (Faulty : List ℕ → Type 0) (signs : List PortSign) 
   bare (Run files budget order splits) h = h
   bare (Alone files mutant test budget) h = h
   bare (Groups files test step budget order) h = h
+  bare (Reduce files budget order) h = h
   bare (Load number) h = h
 
   ordered : (c : Command Text) → Ends files Faulty (plan_of signs answers (without_order c)) end → Ends files Faulty (plan_of signs answers c) end
@@ -32,6 +33,7 @@ module _ (files : Files) (Faulty : List ℕ → Type 0) (signs : List PortSign) 
   ordered (Run files budget order splits) h = h
   ordered (Alone files mutant test budget) h = h
   ordered (Groups files test step budget order) h = h
+  ordered (Reduce files budget order) h = h
   ordered (Load number) h = h
 
   in_other_order : (c d : Command Text) → without_order c ≡ without_order d → Ends files Faulty (plan_of signs answers d) end

@@ -5,10 +5,10 @@ use Rattle.code_form.specs.declared.sign.PortSign.{PortSign}
 use Rattle.ports.specs.Asks.{answers_in}
 use Rattle.refused_lines.specs.Refusals.{no_mutant_line, no_test_line}
 use Rattle.test_suite.specs.declared.suite.Test.{Test}
-use Rattle.work_report.specs.declared.show.Show.TheVariants.{Report, Summary}
+use Rattle.suite_analysis.specs.declared.show.Show.TheVariants.{Report, Summary, Reduced}
 use Rattle.command_words.specs.Words.{Text}
 use Rattle.command_words.specs.declared.command.Command.{Command}
-use Rattle.command_words.specs.declared.command.Command.TheVariants.{Run, Check, Make, Alone, Groups, Load}
+use Rattle.command_words.specs.declared.command.Command.TheVariants.{Run, Check, Make, Alone, Groups, Reduce, Load}
 use Rattle.command_plan.specs.declared.status.Input.TheVariants as input
 use Rattle.command_plan.specs.Ends.{End, Ends, Text as Whole}
 use Rattle.command_plan.specs.Plan.{Counts, Plan, Want, Write}
@@ -43,6 +43,8 @@ module _ (signs : List PortSign) (answers : List (List ℕ → Option ℕ)) wher
       let write : Test → Plan = (λ t. Write (AreGroups m.code all A step t) (IsGroupsRise m.code all A step t)) in
       single_want input.Tests (no_test_line test) Test (test_numbered suite.tests test) write
       (λ t. (groups.groups-one m.code all A step t, groups.rise-one m.code all A step t))
+  plan_single (Reduce files budget order) = λ m all suite.
+      (report.report-one m.code all (answers_in answers) suite Reduced, report.rise-one m.code all (answers_in answers) suite)
   plan_single (Load number) = λ m all suite.
       (report.report-one m.code all (answers_in []) suite (Summary number), report.rise-one m.code all (answers_in []) suite)
 

@@ -30,7 +30,7 @@ use Rattle.kill_matrix.specs.Verdict.{IsVerdict}
 use Rattle.kill_matrix.specs.declared.letter.Letter.{Letter}
 use Rattle.kill_matrix.specs.declared.letter.Letter.TheVariants.{Same}
 use Rattle.work_report.specs.Report.{total_of}
-use Rattle.work_report.specs.declared.show.Show.TheVariants.{Report}
+use Rattle.suite_analysis.specs.declared.show.Show.TheVariants.{Report}
 use Rattle.suite_analysis.specs.Runs.{trial_on, expected_of, work_of, splits_of, AreVerdicts, AreLetters, works_of, lists_of, suite_steps, suite_asks, IsReport}
 use Rattle.command_plan.specs.Ends.{Ends, Text as Whole}
 use Rattle.command_plan.specs.Plan.{Counts, Plan, Reads}

@@ -9,3 +9,4 @@ mod ClassText
 mod GroupsText
 mod Headlines
 mod Reports
+pub mod WholeRuns

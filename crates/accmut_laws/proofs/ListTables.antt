@@ -138,5 +138,6 @@ unfolding empty_table
 list_with code all order =
     let start = empty_table (last_mutant all + 1) in
     let empty = is_empty (last_mutant all + 1) in
-    let made = list_from code [] start [] all order (omega (arith, empty.mutants_are)) (λ m. ap (λ (cs : List (ℕ × ℕ)). places_in cs) (empty.nothing_chosen m)) in
+    let places : HasPlaces start [] = λ m. ap (λ (cs : List (ℕ × ℕ)). places_in cs) (empty.nothing_chosen m) in
+    let made = list_from code [] start [] all order (omega (arith, empty.mutants_are)) places in
     (record { variants = made.0; rows = made.1 }, record { start = start; empty = empty; added = made.2 })

@@ -15,7 +15,7 @@ use Rattle.suite_analysis.specs.Runs.{suite_steps, suite_asks}
 use Rattle.refused_lines.specs.Refusals.{no_mutant_line, no_test_line}
 use Rattle.command_words.specs.Words.{Text}
 use Rattle.command_words.specs.declared.command.Command.{Command}
-use Rattle.command_words.specs.declared.command.Command.TheVariants.{Run, Check, Make, Alone, Groups, Load}
+use Rattle.command_words.specs.declared.command.Command.TheVariants.{Run, Check, Make, Alone, Groups, Reduce, Load}
 use Rattle.command_plan.specs.declared.status.Input.{Input}
 use Rattle.command_plan.specs.declared.status.Input.TheVariants as input
 use Rattle.command_plan.specs.Ends.{Ends, Accepted}
@@ -92,11 +92,15 @@ module _ (signs : List PortSign) (answers : List (List ℕ → Option ℕ)) wher
       let write : ℕ → Test → Plan = (λ n t. Write (IsRunText m.code all A n t) (IsRunRise m.code all A n t)) in
       let want : ℕ → Plan = (λ n. Want input.Tests (no_test_line test) Test (test_numbered suite.tests test) (write n)) in
       want_rise input.Mutants (no_mutant_line mutant) ℕ (mutant_numbered all mutant) want
-      (λ n. want_rise input.Tests (no_test_line test) Test (test_numbered suite.tests test) (write n) (λ t. run_rise m.code all (accepted_order signs m list all are) A n t))
+      (λ n. want_rise input.Tests (no_test_line test) Test (test_numbered suite.tests test) (write n)
+      (λ t. run_rise m.code all (accepted_order signs m list all are) A n t))
   plan_rise (Groups files test step budget order) = λ file m is list all are tests suite fit.
       let A = answers_in answers in
       let write : Test → Plan = (λ t. Write (AreGroups m.code all A step t) (IsGroupsRise m.code all A step t)) in
-      want_rise input.Tests (no_test_line test) Test (test_numbered suite.tests test) write (λ t. groups_rise m.code all (accepted_order signs m list all are) A step t)
+      want_rise input.Tests (no_test_line test) Test (test_numbered suite.tests test) write
+      (λ t. groups_rise m.code all (accepted_order signs m list all are) A step t)
+  plan_rise (Reduce files budget order) = λ file m is list all are tests suite fit.
+      suite_rise m.code all (accepted_order signs m list all are) (answers_in answers) suite
   plan_rise (Load number) = λ file m is list all are tests suite fit.
       suite_rise m.code all (accepted_order [] m list all are) (answers_in []) suite
 

@@ -9,7 +9,7 @@ use Rattle.machine_form.proofs.SameTests.{machine_same}
 use Rattle.flat_analysis.specs.Ended.{AreEnded}
 use Rattle.flat_analysis.specs.declared.ended.Ended.{Ended}
 use Rattle.test_suite.specs.declared.suite.Test.{Test}
-use Rattle.work_report.specs.declared.show.Show.TheVariants.{Report}
+use Rattle.suite_analysis.specs.declared.show.Show.TheVariants.{Report}
 use Rattle.refused_lines.specs.Refusals.{no_test_line}
 use Rattle.command_words.specs.Words.{Text}
 use Rattle.command_words.specs.declared.command.Command.TheVariants.{Run, Groups}

@@ -44,13 +44,15 @@ pub fn steps_are_prefixes()
 
 /// Two mutants share an execution at a step exactly where all their changes up to it are equal. A run
 /// is any list of turns, so whatever a picker picks; `exactly` is of a run after which no execution
-/// is live, and `always` of any part of one.
+/// is live, which each case has (`whole`), and `always` of any part of one.
 pub fn shared()
     ensures exactly { (code : Code) (table : Table) (answers : Answers) (case : Case) (turns : List ℕ) (m k n : ℕ)
         → m < mutants_of table → k < mutants_of table → IsWhole (case_trial code table answers case) turns
         → Share (case_trial code table answers case) turns m k n ↔ AreTogether (case_trial code table answers case) m k n }
     ensures always { (code : Code) (table : Table) (answers : Answers) (case : Case) (turns : List ℕ) (m k n : ℕ)
         → m < mutants_of table → Share (case_trial code table answers case) turns m k n → AreTogether (case_trial code table answers case) m k n }
+    ensures whole { (code : Code) (table : Table) (answers : Answers) (case : Case) → 0 < mutants_of table
+        → (turns : List ℕ) × IsWhole (case_trial code table answers case) turns }
 {}
 
 /// The classes at a step, of which `groups` writes a line each: two mutants are in one of them

@@ -5,3 +5,4 @@ pub mod OneModule
 pub mod OneList
 pub mod OneSuite
 pub mod Placed
+mod FullLemmas

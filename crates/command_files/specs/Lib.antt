@@ -1,3 +1,4 @@
 pub mod Modules
 pub mod Mutants
 pub mod Tests
+pub mod FullLists

@@ -20,7 +20,7 @@ use refused_lines::refused_mutants_line;
 use std::alloc::Global;
 
 /// The list of mutants that a text is, or its refusal.
-fn mutants_of(
+pub(crate) fn mutants_of(
     alloc: Global,
     text: &[u8],
     m: &Loaded,

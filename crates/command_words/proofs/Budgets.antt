@@ -5,13 +5,13 @@ use Rattle.std.specs.Str.{bytes_eq}
 use Rattle.std.proofs.lemmas.Bool.{and_parts, leb-true}
 use Rattle.am_base.specs.declared.limits.TheConstants.{MAX_BUDGET}
 use Rattle.command_words.specs.declared.command.Command.{Command}
-use Rattle.command_words.specs.declared.command.Command.TheVariants.{Run, Check, Make, Alone, Groups, Load}
+use Rattle.command_words.specs.declared.command.Command.TheVariants.{Run, Check, Make, Alone, Groups, Reduce, Load}
 use Rattle.command_words.specs.declared.command.Files.{Files}
 use Rattle.command_words.specs.declared.options.Allowed.{Allowed}
 use Rattle.command_words.specs.declared.options.Options.{Options}
 use Rattle.command_words.specs.declared.options.Given.{Given}
 use Rattle.command_words.specs.declared.options.Given.TheVariants.{Budget, Order, Splits}
-use Rattle.command_words.specs.Words.{Text, IsBudget, budget_of, number_in, is_budget, budget_in, valued, and_more, given_by, are_allowed, with_option, options_among, allowed_among, options_in, may_stand, files_named, run_with, run_of, only_word, check_of, make_of, alone_with, alone_of, groups_with, groups_of, number_among, load_of, command_of}
+use Rattle.command_words.specs.Words.{Text, IsBudget, budget_of, number_in, is_budget, budget_in, valued, and_more, given_by, are_allowed, with_option, options_among, allowed_among, options_in, may_stand, files_named, run_with, run_of, only_word, check_of, make_of, alone_with, alone_of, groups_with, groups_of, reduce_with, reduce_of, number_among, load_of, command_of}
 
 -- ---- what holds of a thing if there is one
 
@@ -147,6 +147,14 @@ groups_is (a ∷ b ∷ []) = tt
 groups_is (a ∷ b ∷ c ∷ []) = tt
 groups_is (a ∷ b ∷ c ∷ d ∷ []) = tt
 
+reduce_is : (words : List Text) → Each IsFine (reduce_of words)
+reduce_is (first ∷ second ∷ third ∷ options) =
+    mapped (reduce_with (files_named first second third)) AreFineOptions IsFine (λ o h. h) (options_in (may_stand true true false) options)
+    (options_are (may_stand true true false) options)
+reduce_is [] = tt
+reduce_is (first ∷ []) = tt
+reduce_is (first ∷ second ∷ []) = tt
+
 load_with_is : (number : Option ℕ) → Each IsFine (option_map Load number)
 load_with_is None = tt
 load_with_is (Some n) = tt
@@ -158,7 +166,8 @@ command_is : (words : List Text) → Each IsFine (command_of words)
 command_is [] = tt
 command_is (name ∷ words) =
     let load = either (Each IsFine) (bytes_eq name (codes "load")) (load_of words) None (load_is words) tt in
-    let groups = either (Each IsFine) (bytes_eq name (codes "groups")) (groups_of words) _ (groups_is words) load in
+    let reduce = either (Each IsFine) (bytes_eq name (codes "reduce")) (reduce_of words) _ (reduce_is words) load in
+    let groups = either (Each IsFine) (bytes_eq name (codes "groups")) (groups_of words) _ (groups_is words) reduce in
     let alone = either (Each IsFine) (bytes_eq name (codes "alone")) (alone_of words) _ (alone_is words) groups in
     let make = either (Each IsFine) (bytes_eq name (codes "make")) (make_of words) _ (make_is words) alone in
     let check = either (Each IsFine) (bytes_eq name (codes "check")) (check_of words) _ (check_is words) make in

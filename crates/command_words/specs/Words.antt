@@ -6,6 +6,7 @@
 --     make MODULE
 --     alone MODULE MUTANTS TESTS M T    --budget N
 --     groups MODULE MUTANTS TESTS T N   --budget N, --order NAME
+--     reduce MODULE MUTANTS TESTS       --budget N, --order NAME
 --     load N
 --
 -- No other words are a command.
@@ -19,7 +20,7 @@ use denote.Ref.{Bor}
 use Rattle.am_base.specs.declared.limits.TheConstants.{MAX_BUDGET}
 use Rattle.ir_tokens.specs.Tokens.{is_digits}
 use Rattle.command_words.specs.declared.command.Command.{Command}
-use Rattle.command_words.specs.declared.command.Command.TheVariants.{Run, Check, Make, Alone, Groups, Load}
+use Rattle.command_words.specs.declared.command.Command.TheVariants.{Run, Check, Make, Alone, Groups, Reduce, Load}
 use Rattle.command_words.specs.declared.command.Files.{Files}
 use Rattle.command_words.specs.declared.options.Allowed.{Allowed}
 use Rattle.command_words.specs.declared.options.Options.{Options}
@@ -175,6 +176,14 @@ groups_of (first ∷ second ∷ third ∷ test ∷ step ∷ options) =
     groups_with (files_named first second third) (number_in test) (number_in step) (options_in (may_stand true true false) options)
 groups_of _ = None
 
+abbrev pub reduce_with : Files Text → Options Text → Command Text
+reduce_with files options = Reduce files options.budget options.order
+
+abbrev pub reduce_of : List Text → Option (Command Text)
+reduce_of (first ∷ second ∷ third ∷ options) =
+    option_map (reduce_with (files_named first second third)) (options_in (may_stand true true false) options)
+reduce_of _ = None
+
 -- the number that a word is, if there is one
 abbrev pub number_among : Option Text → Option ℕ
 number_among None = None
@@ -190,6 +199,7 @@ budget_of (Check name) = None
 budget_of (Make name) = None
 budget_of (Alone files mutant test budget) = budget
 budget_of (Groups files test step budget order) = budget
+budget_of (Reduce files budget order) = budget
 budget_of (Load number) = None
 
 abbrev pub IsBudget : ℕ → Type 0
@@ -204,6 +214,7 @@ command_of (name ∷ words) =
     if bytes_eq name (codes "make") then make_of words else
     if bytes_eq name (codes "alone") then alone_of words else
     if bytes_eq name (codes "groups") then groups_of words else
+    if bytes_eq name (codes "reduce") then reduce_of words else
     if bytes_eq name (codes "load") then load_of words else None
 
 -- ---- pickers
@@ -218,6 +229,7 @@ wanted (Check name) = None
 wanted (Make name) = None
 wanted (Alone files mutant test budget) = None
 wanted (Groups files test step budget order) = Some (order_or_depth order)
+wanted (Reduce files budget order) = Some (order_or_depth order)
 wanted (Load number) = Some (codes "depth")
 
 -- ---- the same with the bytes of names
@@ -239,4 +251,5 @@ meant (Check name) = Check name.now
 meant (Make name) = Make name.now
 meant (Alone files mutant test budget) = Alone (files_meant files) mutant test budget
 meant (Groups files test step budget order) = Groups (files_meant files) test step budget (option_copied order)
+meant (Reduce files budget order) = Reduce (files_meant files) budget (option_copied order)
 meant (Load number) = Load number

@@ -49,6 +49,12 @@ pub enum Command<N> {
         budget: Option<u64>,
         order: Option<N>,
     },
+    /// A smaller suite that kills the same mutants.
+    Reduce {
+        files: Files<N>,
+        budget: Option<u64>,
+        order: Option<N>,
+    },
     /// A run over the workload that is built in, of this number.
     Load {
         number: u64,
@@ -72,6 +78,7 @@ pub fn wanted<'a>(command: &Command<&'a str>) -> Option<&'a str>
     match command {
         Command::Run { order, .. } => Some(order_or_depth(*order)),
         Command::Groups { order, .. } => Some(order_or_depth(*order)),
+        Command::Reduce { order, .. } => Some(order_or_depth(*order)),
         Command::Load { .. } => Some("depth"),
         Command::Check { .. } | Command::Make { .. } | Command::Alone { .. } => None,
     }

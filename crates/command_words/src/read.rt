@@ -111,6 +111,23 @@ fn groups_of<'a>(words: &'a [String]) -> Option<Command<&'a str>>
     })
 }
 
+fn reduce_of<'a>(words: &'a [String]) -> Option<Command<&'a str>>
+    ensures { option_map meant result ≡ spec.reduce_of (texts_of words.now) }
+{
+    let (files, words) = files_of(words)?;
+    let may = Allowed {
+        budget: true,
+        order: true,
+        splits: false,
+    };
+    let options = options_of(may, words)?;
+    Some(Command::Reduce {
+        files,
+        budget: options.budget,
+        order: options.order,
+    })
+}
+
 fn load_of<'a>(words: &'a [String]) -> Option<Command<&'a str>>
     ensures { option_map meant result ≡ spec.load_of (texts_of words.now) }
 {
@@ -129,6 +146,7 @@ fn load_of<'a>(words: &'a [String]) -> Option<Command<&'a str>>
 /// | `make MODULE` | |
 /// | `alone MODULE MUTANTS TESTS M T` | `--budget N` |
 /// | `groups MODULE MUTANTS TESTS T N` | `--budget N`, `--order NAME` |
+/// | `reduce MODULE MUTANTS TESTS` | `--budget N`, `--order NAME` |
 /// | `load N` | |
 ///
 /// A number is 1 to 10 digits without a leading zero, or `0`; a budget is one from 1 to
@@ -147,6 +165,8 @@ pub fn command_of<'a>(words: &'a [String]) -> Option<Command<&'a str>>
         alone_of(words)
     } else if name == "groups" {
         groups_of(words)
+    } else if name == "reduce" {
+        reduce_of(words)
     } else if name == "load" {
         load_of(words)
     } else {

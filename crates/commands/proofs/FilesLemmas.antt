@@ -21,13 +21,13 @@ use Rattle.commands.specs.Files.{AreRead}
 use Rattle.commands.specs.Plans.{tests_plan, mutants_plan, files_plan, unread_plan}
 
 -- a count that rose in the later part of a call rose in the call
-rose_later : (old mid new : List ℕ → ℕ) → ((name : List ℕ) → old name ≤ mid name) → (name : List ℕ) → Rose (mid name) (new name)
+pub rose_later : (old mid new : List ℕ → ℕ) → ((name : List ℕ) → old name ≤ mid name) → (name : List ℕ) → Rose (mid name) (new name)
     → Rose (old name) (new name)
 rose_later old mid new h name r =
     let le = h name in
     elim r as (λ _. Rose (old name) (new name)) [ inl lt ↦ inl (omega (arith, le, lt)) | inr top ↦ inr top ]
 
-no_end : (end : End) → Comes (λ text. ⊥) (λ counts. ⊥) end → ⊥
+pub no_end : (end : End) → Comes (λ text. ⊥) (λ counts. ⊥) end → ⊥
 no_end (Accepted counts) h = h
 no_end (Whole text counts) h = h.0
 no_end (Refused input line) h = h

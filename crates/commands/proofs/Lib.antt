@@ -13,3 +13,4 @@ pub mod ClassLemmas
 pub mod OneGroups
 mod MakeLemmas
 mod LoadLemmas
+pub mod PageLemmas

@@ -8,7 +8,7 @@ use Rattle.am_base.specs.Files.{Files}
 use Rattle.ports.specs.Asks.{answers_in, asked_in}
 use Rattle.traces.proofs.Lists.{contains_cases}
 use Rattle.ir_tokens.specs.Bytes.{Text}
-use Rattle.work_report.specs.declared.show.Show.TheVariants.{Summary}
+use Rattle.suite_analysis.specs.declared.show.Show.TheVariants.{Summary}
 use Rattle.workload.specs.Workload.{Texts, texts_of, file_in, workload_file, fault_count}
 use Rattle.command_plan.specs.declared.stop.Stop.{Stop}
 use Rattle.command_plan.specs.declared.stop.Stop.TheVariants as stop

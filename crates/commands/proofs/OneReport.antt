@@ -23,8 +23,9 @@ use Rattle.kill_matrix.specs.Score.{Letters}
 use Rattle.kill_matrix.specs.Verdict.{IsBudgetOrTrap, IsTrapped, IsVerdict}
 use Rattle.kill_matrix.specs.declared.letter.Letter.{Letter}
 use Rattle.kill_matrix.specs.declared.letter.Letter.TheVariants.{Same, Budget, Trap, Return, Output}
-use Rattle.work_report.specs.Report.{shown_text}
-use Rattle.work_report.specs.declared.show.Show.{Show}
+use Rattle.suite_analysis.specs.Shown.{IsShown}
+use Rattle.suite_analysis.proofs.OneShown.{shown-one}
+use Rattle.suite_analysis.specs.declared.show.Show.{Show}
 use Rattle.suite_analysis.specs.Runs.{AreVerdicts, AreLetters, work_of, splits_of, works_of, lists_of, suite_steps, suite_asks, IsReport}
 use Rattle.command_plan.specs.Plan.{Counts}
 use Rattle.commands.specs.Alone.{counts_of, trial_on}
@@ -112,10 +113,12 @@ module _ (code : Code) (answers : Answers) (t u : Table) (alike : Alike t u) whe
       → IsReport code u answers show suite other → text ≡ other
   reports-one show suite text other h k =
       let grids = grids-one suite h.grid k.grid h.mutants k.mutants h.letters k.letters in
-      let by : Letters → (Test → Trial State Change) → List ℕ =
-      (λ grid trial. shown_text show suite grid (map (λ test. work_of (trial test)) suite.tests)
-      (map (λ test. splits_of (trial test)) suite.tests)) in
-      h.is_text ∙ ap (λ grid. by grid (trial_on code t answers)) grids ∙ ap (by k.grid) one ∙ sym k.is_text
+      let by : Letters → (Test → Trial State Change) → List ℕ → Type 0 =
+      (λ grid trial text. IsShown show suite grid (map (λ test. work_of (trial test)) suite.tests)
+      (map (λ test. splits_of (trial test)) suite.tests) text) in
+      let moved : by k.grid (trial_on code u answers) text =
+      subst (λ trial. by k.grid trial text) one (subst (λ grid. by grid (trial_on code t answers) text) grids h.is_text) in
+      shown-one show suite k.grid _ _ text other moved k.is_text
 
   rises-one : (tests : List Test) → counts_of (suite_steps code t answers tests) (suite_asks code t answers tests)
       ≡ counts_of (suite_steps code u answers tests) (suite_asks code u answers tests)

@@ -10,7 +10,7 @@ use Rattle.mutant_records.specs.declared.list.MutantList.{MutantList}
 use Rattle.test_suite.specs.declared.suite.Suite.{Suite}
 use Rattle.suite_analysis.specs.Runs.{IsReport, suite_steps, suite_asks}
 use Rattle.command_files.specs.declared.module.Loaded.{Loaded}
-use Rattle.work_report.specs.declared.show.Show.{Show}
+use Rattle.suite_analysis.specs.declared.show.Show.{Show}
 use Rattle.command_plan.specs.declared.stop.Stop.TheVariants as stop
 use Rattle.command_plan.specs.Plan.{Counts}
 use Rattle.command_plan.specs.Answer.{Found, RunsOut, RiseBy, RiseWithin}

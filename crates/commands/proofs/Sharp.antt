@@ -9,8 +9,8 @@ use Rattle.mutant_records.specs.declared.list.Made.{Made}
 use Rattle.test_suite.specs.declared.suite.Suite.{Suite}
 use Rattle.test_suite.specs.declared.suite.Test.{Test}
 use Rattle.refused_lines.specs.Refusals.{no_mutant_line, no_test_line}
-use Rattle.work_report.specs.declared.show.Show.{Show}
-use Rattle.work_report.specs.declared.show.Show.TheVariants.{Summary}
+use Rattle.suite_analysis.specs.declared.show.Show.{Show}
+use Rattle.suite_analysis.specs.declared.show.Show.TheVariants.{Summary}
 use Rattle.command_plan.specs.declared.status.Input.{Input}
 use Rattle.command_plan.specs.declared.status.Input.TheVariants as input
 use Rattle.command_plan.specs.Plan.{Plan, Want, Bound, Write}

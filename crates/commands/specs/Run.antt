@@ -2,7 +2,7 @@
 use Rattle.std.specs.Prelude.{◌≡◌, ℕ, List}
 use Rattle.code_form.specs.declared.code.Code.{Code}
 use Rattle.machine_form.specs.Calls.{Answers}
-use Rattle.work_report.specs.declared.show.Show.{Show}
+use Rattle.suite_analysis.specs.declared.show.Show.{Show}
 use Rattle.suite_analysis.specs.Runs.{IsReport, suite_steps, suite_asks}
 use Rattle.mutant_records.specs.Tables.{IsListOf}
 use Rattle.mutant_records.specs.declared.list.Made.{Made}

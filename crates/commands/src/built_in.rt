@@ -19,7 +19,7 @@ use flat_state::Flat;
 use picker::Picker;
 use plain_machine::{Alone, Program};
 use std::alloc::Global;
-use work_report::Show;
+use suite_analysis::Show;
 use workload::{MODULE, MUTANTS, TESTS, Workload};
 
 /// No ports at all.

@@ -12,7 +12,7 @@ ghost use Rattle.ir_tokens.specs.Bytes.{Text};
 ghost use Rattle.mutant_records.specs.declared.list.Made.{Made};
 ghost use Rattle.test_suite.specs.declared.suite.Suite.{Suite};
 ghost use Rattle.test_suite.specs.declared.suite.Test.{Test};
-ghost use Rattle.work_report.specs.declared.show.Show.{Show};
+ghost use Rattle.suite_analysis.specs.declared.show.Show.{Show};
 ghost use Rattle.command_plan.specs.Ends.{Ends, Fault};
 ghost use Rattle.command_plan.specs.Plan.{Counts};
 ghost use Rattle.command_plan.specs.Sharp.{AreNames, IsSharp};

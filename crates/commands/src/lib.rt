@@ -8,6 +8,8 @@ mod groups;
 mod laws;
 mod load;
 mod make;
+mod number;
+mod page_files;
 mod run;
 mod wanted;
 
@@ -20,5 +22,7 @@ pub use laws::{
     sharp_plans,
 };
 pub use make::make_found;
+pub use number::number_found;
+pub use page_files::page_found;
 pub use run::run_found;
 pub use wanted::{Point, Wanted};

@@ -22,8 +22,7 @@ use exec_core::Meter;
 use flat_machine::Ports;
 use picker::Picker;
 use std::alloc::Global;
-use suite_analysis::report_of;
-use work_report::Show;
+use suite_analysis::{Show, report_of};
 
 /// What is shown of the report, where the files are accepted, or why there is none.
 fn run_wanted<P: Ports>(

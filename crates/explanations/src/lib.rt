@@ -14,7 +14,7 @@ pub use lists::{about_mutants, about_tests};
 pub use modules::about_module;
 pub use places::{line_at, line_of_record};
 pub use refusal::{Refusal, refusal_of};
-pub use usage::{COMMANDS, wrong_word};
+pub use usage::{COMMANDS, Program, VIEWS, wrong_word};
 
 #[cfg(test)]
 mod tests;

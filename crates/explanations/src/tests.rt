@@ -1,6 +1,9 @@
 //! Lines taken apart, places in files, and that each code has its words.
 
-use crate::{about_module, about_mutants, about_tests, line_at, line_of_record, refusal_of};
+use crate::{
+    Program, about_module, about_mutants, about_tests, line_at, line_of_record, refusal_of,
+    wrong_word,
+};
 use std::test::Fail;
 
 /// The codes of a refused module.
@@ -109,5 +112,22 @@ fn a_line_is_taken_apart(rt: HostRuntime) -> Result<(), Fail> {
     ] {
         assert!(rt; refusal_of(text).is_none(), "{text:?}");
     }
+    Ok(())
+}
+
+#[test]
+fn a_wrong_word_is_told(rt: HostRuntime) -> Result<(), Fail> {
+    for (program, word, is_wrong) in [
+        (Program::Accmut, "--help", false),
+        (Program::Accmut, "number", true),
+        (Program::View, "-h", false),
+        (Program::View, "run", true),
+    ] {
+        assert_eq!(rt; wrong_word(program, word).is_some(), is_wrong);
+    }
+    assert_eq!(rt;
+        wrong_word(Program::View, "number"),
+        Some("this command doesn't take these words")
+    );
     Ok(())
 }

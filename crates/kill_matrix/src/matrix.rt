@@ -88,8 +88,9 @@ impl Matrix {
         self.tests.len() as u32
     }
 
-    /// Whether some test kills mutant `m`.
-    fn is_killed(&self, m: u32) -> bool
+    /// Whether some test kills mutant `m`, counted from 0; of a mutant that there isn't none does.
+    /// O(n) in the tests.
+    pub fn is_killed(&self, m: u32) -> bool
         ensures { result ≡ is_killed self.now m }
     {
         self.tests.iter().any(|row| kills_in(row, m))

@@ -14,3 +14,5 @@ mod walk;
 
 pub use error::MakeError;
 pub use list::make;
+pub use rows::Row;
+pub use text::list_of;

@@ -17,9 +17,9 @@ use ir_tree::{Item, Op};
 use sqlite_items::Boxed;
 use std::alloc::Global;
 
-/// The fields of a record.
+/// The fields of a record of a list.
 #[derive(Drop)]
-pub(crate) struct Row {
+pub struct Row {
     /// The name of the function.
     pub function: Bytes,
     /// The number of the instruction in it, from 1.

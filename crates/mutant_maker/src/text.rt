@@ -52,8 +52,9 @@ fn written(writer: Writer<Vec<u8>>) -> Result<Vec<u8>, OutOfMemory>
     }
 }
 
-/// Returns the list of these records behind the header.
-pub(crate) fn list_of(alloc: Global, rows: &[Row]) -> Result<Vec<u8>, OutOfMemory>
+/// Returns the list of these records behind the header `function;instruction;replacement`, as `csv`
+/// writes it with `;` between fields. It is refused only for want of memory. O(n) in its bytes.
+pub fn list_of(alloc: Global, rows: &[Row]) -> Result<Vec<u8>, OutOfMemory>
     ensures { IfOk result (λ text. text.items
         ≡ row_text list_writer header ++ flat_map (λ row. row_text list_writer (fields_of row)) rows.now) }
 {

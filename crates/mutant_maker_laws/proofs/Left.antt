@@ -1,5 +1,6 @@
 -- Of what the makers try, only what equals the original or an earlier one is left out.
-use Rattle.std.proofs.Common.{◌≡◌, ◌⊎◌, inl, inr, ℕ, zero, suc, ◌+◌, ◌%◌, ◌^◌, ◌<◌, Bool, true, false, ◌||◌, not, ◌&&◌, List, [], ◌∷◌, ◌++◌, map, refl, sym, ap, ◌∙◌, subst, arith}
+use Rattle.std.proofs.Common.{◌≡◌, ◌⊎◌, inl, inr, ℕ, zero, suc, ◌+◌, Bool, true, false, ◌||◌, not, ◌&&◌, List, [], ◌∷◌, ◌++◌, map}
+use Rattle.std.proofs.Common.{refl, sym, ap, ◌∙◌, subst, arith}
 use Rattle.std.proofs.Common.{Option, Some, None, ℤ, slice_get, slice_set, ◌==◌, if◌then◌else◌, append_assoc, append-nil, ⊎_elim}
 use Rattle.std.specs.List.{fold, flat_map, list_any}
 use Rattle.std.proofs.lemmas.Bool.Decides.{Decides-eqb}
@@ -29,7 +30,7 @@ use Rattle.ir_rules.specs.Memory.{Addresses, constant_word}
 use Rattle.ir_rules.specs.Codes.{op_code, typed_code, block_code, callee_code, width_in}
 use Rattle.ir_rules.specs.Settings.{entity_of}
 use Rattle.ir_sound.proofs.Lists.{Each}
-use Rattle.mutant_maker.specs.Makers.{operations, same_operation, predicates, same_predicate, is_wide, with_word, new_words, new_numbers, with_argument, with_value}
+use Rattle.mutant_maker.specs.Makers.{operations, same_operation, predicates, same_predicate, is_wide, with_word, new_words, new_numbers, with_argument}
 use Rattle.mutant_maker.specs.Makers.{constants_from, same_operand, new_conditions, with_condition, condition_maker, replacements_of, values_of}
 use Rattle.mutant_maker_laws.specs.Tried.{tried, tried_words, tried_numbers, tried_from, IsAmong, AreLeft}
 use Rattle.mutant_maker_laws.proofs.Apart.{Apart, AllApart, all-apart}
@@ -285,6 +286,9 @@ module _ (s : Setting) (a : Addresses) where
             by false e other rest =
                 (n ∷ rest.0, rest.1 ∙ append_assoc words (n ∷ []) rest.0, inr (numbers (map (signed w) rest.0), refl, rest.2))
 
+      abbrev words_if : Width → Bool → List ℕ → List Op
+      words_if w b ns = numbers (if b then map (signed w) ns else [])
+
       numbers_left : (k : Option TyScalar) (y : Opd) → s.kind t ≡ k → x ≡ y → Found (numbers (tried_numbers k y)) (numbers (new_numbers k y))
       numbers_left None y e same = refl
       numbers_left (Some Ptr) y e same = refl
@@ -304,8 +308,7 @@ module _ (s : Setting) (a : Addresses) where
               subst (λ m. IsAmong (code (f (opd.Number (signed w m)))) (code o ∷ [])) is (inl (alike (opd.Number (signed w (word_of w z))) (back ∙ sym old))))
               (any_push (λ m. m == n) [] (word_of w z) h)
 
-          by : (b : Bool)
-              → Found (numbers (if b then map (signed w) (tried_words w (word_of w z)) else [])) (numbers (if b then map (signed w) (new_words w (word_of w z)) else []))
+          by : (b : Bool) → Found (words_if w b (tried_words w (word_of w z))) (words_if w b (new_words w (word_of w z)))
           by true =
               let all = words_left w (word_of w z) (code o ∷ []) [] (tried_words w (word_of w z)) seen in
               subst (λ ns. Found (numbers (map (signed w) (tried_words w (word_of w z)))) (numbers (map (signed w) ns))) (sym all.1) all.2
@@ -339,7 +342,8 @@ module _ (s : Setting) (a : Addresses) where
           by false false g h = rw (is opd.True, is opd.False) (inr (f opd.False ∷ [], refl, inr ([], refl, refl)))
 
   -- two operands of a binary operation or a comparison
-  module _ {K : Type 0} (same : K → K → Bool) (decides : (b k : K) → same b k ≡ true → b ≡ k) (mk : K → Opd → Opd → Op) (t : TyText) (put : K → Operand → Operand → Instr)
+  module _ {K : Type 0} (same : K → K → Bool) (decides : (b k : K) → same b k ≡ true → b ≡ k) (mk : K → Opd → Opd → Op) (t : TyText)
+      (put : K → Operand → Operand → Instr)
       (codes : (k : K) (x y : Opd) → code (mk k x y) ≡ put k (typed t x) (typed t y)) (ks : List K) (b : K) (x y : Opd) where
     abbrev both : Op
     both = mk b x y
@@ -447,8 +451,10 @@ module _ (s : Setting) (a : Addresses) where
       (if (block_code s m == block_code s n) then [] else op.Branch t c n m ∷ []) (condition_maker (code o) o) swap flags
 
   all_hold : (o : Op) → Holds o
-  all_hold (op.Bin b t x y) = two_left same_operation operation_same (λ k x y. op.Bin k t x y) t (λ k v w. instr.Bin k (width_in s t) v w) (λ k x y. refl) operations b x y
-  all_hold (op.Cmp p t x y) = two_left same_predicate predicate_same (λ k x y. op.Cmp k t x y) t (λ k v w. instr.Cmp k (width_in s t) v w) (λ k x y. refl) predicates p x y
+  all_hold (op.Bin b t x y) =
+      two_left same_operation operation_same (λ k x y. op.Bin k t x y) t (λ k v w. instr.Bin k (width_in s t) v w) (λ k x y. refl) operations b x y
+  all_hold (op.Cmp p t x y) =
+      two_left same_predicate predicate_same (λ k x y. op.Cmp k t x y) t (λ k v w. instr.Cmp k (width_in s t) v w) (λ k x y. refl) predicates p x y
   all_hold (op.Select c i t x u y) = select_left c i t x u y
   all_hold (op.Cast c t x to) = refl
   all_hold (op.Freeze t x) = refl

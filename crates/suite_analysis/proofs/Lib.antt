@@ -1,3 +1,4 @@
 pub mod LetterLemmas
 pub mod DoneLemmas
 pub mod SuiteLemmas
+pub mod OneShown

@@ -27,8 +27,8 @@ use Rattle.kill_matrix.specs.declared.letter.Letter.{Letter}
 use Rattle.kill_matrix.specs.declared.letter.Letter.TheVariants.{Same}
 use Rattle.kill_matrix.specs.Verdict.{IsVerdict}
 use Rattle.kill_matrix.specs.Score.{Letters}
-use Rattle.work_report.specs.Report.{shown_text}
-use Rattle.work_report.specs.declared.show.Show.{Show}
+use Rattle.suite_analysis.specs.Shown.{IsShown}
+use Rattle.suite_analysis.specs.declared.show.Show.{Show}
 
 module _ (T : Trial State Change) where
   pub record AreVerdicts (expected : Outcome) (letters : List Letter) : Type 0 where
@@ -70,4 +70,4 @@ module _ (code : Code) (table : Table) (answers : Answers) where
     pub grid : Letters
     pub mutants : grid.mutants ≡ mutants_of table
     pub letters : AreLetters suite.tests grid.tests
-    pub is_text : text ≡ shown_text show suite grid (works_of suite.tests) (lists_of suite.tests)
+    pub is_text : IsShown show suite grid (works_of suite.tests) (lists_of suite.tests) text

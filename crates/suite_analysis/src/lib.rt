@@ -3,6 +3,9 @@
 
 mod done;
 mod letters;
+mod show;
 mod suite;
 
-pub use suite::report_of;
+pub use done::Done;
+pub use show::Show;
+pub use suite::{analyse_suite, report_of};

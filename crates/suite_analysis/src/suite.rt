@@ -11,11 +11,13 @@ ghost use Rattle.traces.specs.Work.{steps, asks};
 ghost use Rattle.traces.specs.Counts.{IsBetween};
 ghost use Rattle.ports.specs.Asks.{answers_in, asked_in, AskedBy, AskedAtMostBy};
 ghost use Rattle.test_suite.specs.Suite.{FitsSuite};
-ghost use Rattle.work_report.specs.Report.{FitsWords, total_of, shown_text};
+ghost use Rattle.work_report.specs.Report.{FitsWords, total_of};
 ghost use Rattle.suite_analysis.specs.Parts.{AreDone};
+ghost use Rattle.suite_analysis.specs.Shown.{IsShown};
 ghost use Rattle.suite_analysis.specs.Runs.{trial_on, suite_steps, suite_asks, IsReport};
 
 use crate::done::{Done, add, no_tests};
+use crate::show::{Show, shown};
 use am_base::OutOfMemory;
 use am_lists::Items;
 use code_form::{Code, Variants};
@@ -25,7 +27,6 @@ use flat_machine::Ports;
 use picker::Picker;
 use std::alloc::Global;
 use test_suite::{Suite, Test};
-use work_report::{Show, shown};
 
 /// Analyses one more test, and gives the ports back, whatever it answers.
 fn run_test<'a, P: Ports>(
@@ -115,13 +116,56 @@ fn run_tests<'a, P: Ports>(
     (held, Ok(done))
 }
 
+/// Runs all mutants of a table on each test of a suite, and returns what was found: the verdict on
+/// each mutant's run alone on each test, the work and the splits. It gives the ports back, whatever
+/// it answers.
+///
+/// Each port was asked as often as the model of all tests asks it, and the meter rose by the steps.
+/// It is refused only for want of memory; then neither rose by more than that.
+pub fn analyse_suite<'a, P: Ports>(
+    alloc: Global,
+    code: &'a Code,
+    variants: &'a Variants,
+    suite: &Suite,
+    ports: P,
+    picker: &mut Box<dyn Picker>,
+    meter: &mut Meter,
+) -> (P, Result<Done, OutOfMemory>)
+    requires sound { IsSound code.now }
+    requires table { FitsTable code.now variants.now }
+    requires suite { FitsSuite code.now suite.now }
+    requires signs { (P.outside ports).signs ≡ code.now.signs }
+    requires few { (p : ℕ) → asked_in (P.outside ports).asked p ≤ 2 ^ 62 }
+    requires room { meter.old ≤ 2 ^ 62 }
+
+    ensures done { IfOk result.1 (λ done. AreDone code.now variants.now (answers_in (P.outside ports).answers) suite.now.tests done) }
+    ensures tests { IfOk result.1 (λ done. length done.matrix.tests ≡ length suite.now.tests) }
+    ensures sums { IfOk result.1 (λ done. FitsWords (total_of done.works.items)) }
+    ensures asks { OnOk result.1 (AskedBy (P.outside ports).asked (P.outside result.0).asked
+        (suite_asks code.now variants.now (answers_in (P.outside ports).answers) suite.now.tests)) }
+    ensures meter { OnOk result.1 (meter.new ≡ meter.old
+        + suite_steps code.now variants.now (answers_in (P.outside ports).answers) suite.now.tests) }
+
+    // Whatever it answers.
+    ensures signs { (P.outside result.0).signs ≡ (P.outside ports).signs }
+    ensures answers { (P.outside result.0).answers ≡ (P.outside ports).answers }
+    ensures asks_at_most { AskedAtMostBy (P.outside ports).asked (P.outside result.0).asked
+        (suite_asks code.now variants.now (answers_in (P.outside ports).answers) suite.now.tests) }
+    ensures meter_within { IsBetween meter.old meter.new (meter.old
+        + suite_steps code.now variants.now (answers_in (P.outside ports).answers) suite.now.tests) }
+{
+    let _mutants = variants.mutants();
+    let tests = suite.tests.as_slice();
+    run_tests(alloc, code, variants, tests, ports, picker, meter)
+}
+
 /// The text of what was found.
 fn text_of(alloc: Global, suite: &Suite, done: &Done, show: Show) -> Result<Vec<u8>, OutOfMemory>
     requires tests { length done.now.matrix.tests ≡ length suite.now.tests }
     requires works { length done.now.works.items ≡ length suite.now.tests }
     requires splits { length done.now.splits.items ≡ length suite.now.tests }
     requires sums { FitsWords (total_of done.now.works.items) }
-    ensures { IfOk result (λ text. text.items ≡ shown_text show suite.now done.now.matrix done.now.works.items done.now.splits.items) }
+    ensures { IfOk result (λ text. IsShown show suite.now done.now.matrix done.now.works.items done.now.splits.items text.items) }
 {
     let works = done.works.as_slice();
     shown(
@@ -171,16 +215,7 @@ pub fn report_of<'a, P: Ports>(
     ensures meter_within { IsBetween meter.old meter.new (meter.old
         + suite_steps code.now variants.now (answers_in (P.outside ports).answers) suite.now.tests) }
 {
-    let _mutants = variants.mutants();
-    let (ports, done) = run_tests(
-        alloc,
-        code,
-        variants,
-        suite.tests.as_slice(),
-        ports,
-        picker,
-        meter,
-    );
+    let (ports, done) = analyse_suite(alloc, code, variants, suite, ports, picker, meter);
     match done {
         Ok(done) => (ports, text_of(alloc, suite, &done, show)),
         Err(error) => (ports, Err(error)),

@@ -4,3 +4,4 @@ pub mod Pass
 pub mod Subsumers
 pub mod Planes
 pub mod Scan
+pub mod Text

@@ -7,10 +7,12 @@ mod kills;
 mod laws;
 mod least;
 mod planes;
+mod text;
 
 pub use choice::choose;
 pub use laws::{chosen_kill_alone, chosen_kill_like_all};
 pub use least::subsumers;
+pub use text::reduced;
 
 #[cfg(test)]
 mod tests;

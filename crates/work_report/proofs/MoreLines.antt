@@ -7,7 +7,7 @@ use Rattle.exec_core.specs.declared.result.Split.{Split}
 use Rattle.line_parts.proofs.MoreParts.{flat_more}
 use Rattle.work_report.specs.Report.{each_below, split_line}
 
-range_more : (a n j : ℕ) → a + n ≡ j → range_with_len a (suc n) ≡ range_with_len a n ++ j ∷ []
+pub range_more : (a n j : ℕ) → a + n ≡ j → range_with_len a (suc n) ≡ range_with_len a n ++ j ∷ []
 range_more a zero j e = let same : a ≡ j = omega (arith, e) in ap (λ k. k ∷ []) same
 range_more a (suc n) j e = ap (λ ks. a ∷ ks) (range_more (a + 1) n j (omega (arith, e)))
 

@@ -7,8 +7,6 @@ use Rattle.kill_matrix.specs.Verdict.{byte_of}
 use Rattle.exec_core.specs.declared.result.Work.{Work}
 use Rattle.exec_core.specs.declared.result.Split.{Split}
 use Rattle.line_parts.specs.Parts.{spaced}
-use Rattle.work_report.specs.declared.show.Show.{Show}
-use Rattle.work_report.specs.declared.show.Show.TheVariants.{Report, Summary}
 
 -- what f gives for the numbers 0, 1, .., n - 1, one after another
 abbrev pub each_below : (ℕ → List ℕ) → ℕ → List ℕ
@@ -84,7 +82,7 @@ split_text suite (Some splits) = each_below (split_lines suite splits) (length s
 abbrev pub report_text : Suite → Letters → List Work → Option (List (List Split)) → List ℕ
 report_text suite grid works splits = score_text suite grid ++ work_text suite works ++ split_text suite splits
 
--- ---- what is shown
+-- ---- the summary of a workload
 
 -- `load` and the number of a workload
 abbrev pub load_line : ℕ → List ℕ
@@ -93,7 +91,3 @@ load_line number = codes "load," ++ decimal number ++ 10 ∷ []
 -- the number of a workload, and its report from the score on, without splits
 abbrev pub summary_text : ℕ → Suite → Letters → List Work → List ℕ
 summary_text number suite grid works = load_line number ++ score_line grid ++ work_text suite works
-
-abbrev pub shown_text : Show → Suite → Letters → List Work → List (List Split) → List ℕ
-shown_text (Report with_splits) suite grid works splits = report_text suite grid works (if with_splits then Some splits else None)
-shown_text (Summary number) suite grid works splits = summary_text number suite grid works

@@ -54,7 +54,9 @@ fn put_mutants(out: &mut Bytes, matrix: &Matrix) -> Result<(), OutOfMemory>
     Ok(())
 }
 
-pub(crate) fn put_score(out: &mut Bytes, matrix: &Matrix) -> Result<(), OutOfMemory>
+/// Appends the line of the score: how many mutants are killed, and how many there are, the original
+/// not counted.
+pub fn put_score(out: &mut Bytes, matrix: &Matrix) -> Result<(), OutOfMemory>
     ensures { OnOk result (out.new ≡ out.old ++ score_line matrix.now) }
 {
     let (killed, mutants) = matrix.score();

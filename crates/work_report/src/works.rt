@@ -23,8 +23,8 @@ fn put_fields(out: &mut Bytes, work: Work) -> Result<(), OutOfMemory>
     Ok(())
 }
 
-/// Returns the work of test `t`, counted from 0.
-fn work_of(works: &[Work], t: usize) -> Work
+/// Returns the work of test `t`, counted from 0; zeros where there is no such test.
+pub fn work_of(works: &[Work], t: usize) -> Work
     ensures { result ≡ unwrap_or (slice_get works.now t) no_work }
 {
     match works.get(t) {
@@ -84,7 +84,8 @@ fn executions_of(works: &[Work]) -> u64
     works.iter().map(|w| w.executions).sum()
 }
 
-fn total_of(works: &[Work]) -> Work
+/// Returns the sums of the work of all tests, which have to fit 64 bits. O(n) in the tests.
+pub fn total_of(works: &[Work]) -> Work
     requires { FitsWords (spec.total_of works.now) }
     ensures { result ≡ spec.total_of works.now }
 {

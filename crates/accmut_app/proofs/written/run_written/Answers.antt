@@ -2,7 +2,6 @@ use Rattle.std.proofs.Common.{◌∙◌, List, ℕ, subst}
 use Rattle.am_base.specs.Cause.{Rose}
 use Rattle.ports.specs.Asks.{answers_in, asked_in}
 use Rattle.command_plan.specs.Answer.{Found}
-use Rattle.work_report.specs.declared.show.Show.TheVariants.{Report}
 use Rattle.commands.specs.Alone.{counts_of}
 use Rattle.commands.specs.Plans.{run_plan}
 use Rattle.accmut_app.specs.Commands.{steps_of}
@@ -18,10 +17,10 @@ returns-in-Ok-clause-answer g c =
     let old = counts_of c.args.meter.now (asked_in outside.asked) in
     let new = counts_of c.run_found-ports.new.meter (asked_in (g.P.Ports.outside c.run_found-ports.result.0).asked) in
     let found = subst (λ budget. Found shelf faulty (run_plan c.as_slice.result.now (answers_in outside.answers) budget
-    files.module.now files.mutants.now files.tests.now (Report c.args.with_splits)) old new c.run_found-ports.result.1)
+    files.module.now files.mutants.now files.tests.now c.args.show) old new c.run_found-ports.result.1)
     c.budget_or_default.ensures.value c.run_found-ports.ensures.found in
     answered shelf faulty
-    (λ signs. run_plan signs (answers_in outside.answers) (steps_of c.args.budget) files.module.now files.mutants.now files.tests.now (Report c.args.with_splits))
+    (λ signs. run_plan signs (answers_in outside.answers) (steps_of c.args.budget) files.module.now files.mutants.now files.tests.now c.args.show)
     c.as_slice.result.now outside.signs old new (g.K.Sink.written c.args.sink.now) (g.K.Sink.written c.write_found.new.sink)
     (Rose (g.K.Sink.faults c.args.sink.now) (g.K.Sink.faults c.write_found.new.sink)) c.run_found-ports.result.1 c.write_found.result
     (c.as_slice.ensures ∙ c.in-Ok.ensures) found c.write_found.ensures.writes

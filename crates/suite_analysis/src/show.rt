@@ -1,20 +1,19 @@
 //! What is shown of what was found.
 
-ghost use Rattle.std.specs.Prelude.{◌≡◌, ◌++◌, ◌∷◌, codes, decimal, if◌then◌else◌, length, IfOk, None, OnOk, Some};
+ghost use Rattle.std.specs.Prelude.{◌≡◌, if◌then◌else◌, length, IfOk, None, Some};
 ghost use Rattle.std.specs.Option.{option_copied};
-ghost use Rattle.work_report.specs.Report.{FitsWords, load_line, total_of};
-ghost use Rattle.work_report.specs.Report as spec;
+ghost use Rattle.work_report.specs.Report.{FitsWords, total_of};
+ghost use Rattle.suite_reduce.specs.Text.{IsReduced};
+ghost use Rattle.suite_analysis.specs.Shown.{IsShown};
 
-use crate::score::put_score;
-use crate::text::report;
-use crate::works::put_works;
 use am_base::OutOfMemory;
-use am_lists::{Bytes, Items};
+use am_lists::Items;
 use exec_core::{Split, Work};
 use kill_matrix::Matrix;
-use line_parts::put_number;
 use std::alloc::Global;
+use suite_reduce::{choose, reduced, subsumers};
 use test_suite::Suite;
+use work_report::{report, summary};
 
 /// What is shown of what was found.
 #[derive(Clone, Copy)]
@@ -23,6 +22,8 @@ pub enum Show {
     Report { with_splits: bool },
     /// The number of a workload, and the report from its score on, without splits.
     Summary { number: u64 },
+    /// The smaller suite that kills the same mutants, and for each of these a mutant that subsumes it.
+    Reduced,
 }
 
 /// The splits, where they are to be shown.
@@ -32,38 +33,29 @@ fn splits_shown(splits: &[Items<Split>], with_splits: bool) -> Option<&[Items<Sp
     if with_splits { Some(splits) } else { None }
 }
 
-fn put_load(out: &mut Bytes, number: u64) -> Result<(), OutOfMemory>
-    ensures { OnOk result (out.new ≡ out.old ++ load_line number) }
+/// The smaller suite of a matrix, and the least mutant that subsumes each killed one.
+fn reduced_of(alloc: Global, suite: &Suite, matrix: &Matrix) -> Result<Vec<u8>, OutOfMemory>
+    requires { length matrix.now.tests ≡ length suite.now.tests }
+    ensures { IfOk result (λ text. IsReduced suite.now matrix.now text.items) }
 {
-    out.extend(b"load,")?;
-    put_number(out, number)?;
-    out.push(b'\n')?;
-    Ok(())
-}
-
-/// Returns the summary of a workload: a line with its number, the score, the work of each test and
-/// the sums.
-fn summary(
-    alloc: Global,
-    number: u64,
-    suite: &Suite,
-    matrix: &Matrix,
-    works: &[Work],
-) -> Result<Vec<u8>, OutOfMemory>
-    requires { FitsWords (total_of works.now) }
-    ensures { IfOk result (λ text. text.items ≡ spec.summary_text number suite.now matrix.now works.now) }
-{
-    let mut out = Bytes::new(alloc);
-    put_load(&mut out, number)?;
-    put_score(&mut out, matrix)?;
-    put_works(&mut out, suite, works)?;
-    Ok(out.into_vec())
+    let mutants = matrix.mutants();
+    let tests = matrix.tests();
+    let chosen = choose(alloc, matrix, tests)?;
+    let least = subsumers(alloc, matrix, mutants, tests)?;
+    reduced(
+        alloc,
+        suite,
+        matrix,
+        mutants,
+        chosen.as_slice(),
+        least.as_slice(),
+    )
 }
 
 /// Returns what is shown of a suite: of its letters, test by test and mutant by mutant, of the work
 /// and of the splits of each test. Each line ends with byte 10. The sums have to fit 64 bits.
 /// Refuses for want of memory alone. O(n) in the bytes of the text.
-pub fn shown(
+pub(crate) fn shown(
     alloc: Global,
     show: Show,
     suite: &Suite,
@@ -75,7 +67,7 @@ pub fn shown(
     requires works { length works.now ≡ length suite.now.tests }
     requires splits { length splits.now ≡ length suite.now.tests }
     requires sums { FitsWords (total_of works.now) }
-    ensures { IfOk result (λ text. text.items ≡ spec.shown_text show suite.now matrix.now works.now splits.now) }
+    ensures { IfOk result (λ text. IsShown show suite.now matrix.now works.now splits.now text.items) }
 {
     match show {
         Show::Report { with_splits } => {
@@ -88,5 +80,6 @@ pub fn shown(
             )
         }
         Show::Summary { number } => summary(alloc, number, suite, matrix, works),
+        Show::Reduced => reduced_of(alloc, suite, matrix),
     }
 }

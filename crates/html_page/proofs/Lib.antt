@@ -1,0 +1,4 @@
+pub mod Escapes
+pub mod Thousands
+pub mod More
+pub mod Rows

@@ -1,0 +1,11 @@
+use Rattle.std.proofs.Common.{append_assoc}
+use Rattle.html_page.proofs.lines_part.put_lines.Goals as goal
+
+pub returns : goal.returns
+returns c =
+    rw (
+      c.in_ok-extend-2.ensures.ok,
+      c.in_ok-put_rows.ensures,
+      c.in_ok-extend.ensures.ok,
+    )
+    (simp append_assoc)

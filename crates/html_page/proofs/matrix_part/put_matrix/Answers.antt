@@ -1,0 +1,17 @@
+use Rattle.std.proofs.Common.{append_assoc}
+use Rattle.html_page.proofs.matrix_part.put_matrix.Goals as goal
+
+pub returns : goal.returns
+returns c =
+    rw (
+      c.in_ok-extend-4.ensures.ok,
+      c.in_ok-put_rows.ensures,
+      c.in_ok-push.ensures.ok,
+      c.in_ok-put_columns.ensures,
+      c.as_slice.ensures,
+      c.in_ok-extend-3.ensures.ok,
+      c.in_ok-extend-2.ensures.ok,
+      c.legend.ensures,
+      c.in_ok-extend.ensures.ok,
+    )
+    (simp append_assoc)

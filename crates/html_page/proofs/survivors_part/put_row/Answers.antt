@@ -1,0 +1,15 @@
+use Rattle.std.proofs.Common.{append_assoc}
+use Rattle.html_page.proofs.survivors_part.put_row.Goals as goal
+
+pub returns : goal.returns
+returns c =
+    rw (
+      c.in_ok-extend-3.ensures.ok,
+      c.in_ok-put_text.ensures,
+      c.as_slice.ensures,
+      c.in_ok-extend-2.ensures.ok,
+      c.in_ok-put_original.ensures,
+      c.in_ok-put_number.ensures,
+      c.in_ok-extend.ensures.ok,
+    )
+    (simp append_assoc)

@@ -1,0 +1,12 @@
+use Rattle.std.proofs.Common.{append_assoc}
+use Rattle.html_page.proofs.tests_part.put_front.Goals as goal
+
+pub returns : goal.returns
+returns c =
+    rw (
+      c.in_ok-put_thousands.ensures,
+      c.in_ok-extend-2.ensures.ok,
+      c.in_ok-put_text.ensures,
+      c.in_ok-extend.ensures.ok,
+    )
+    (simp append_assoc)

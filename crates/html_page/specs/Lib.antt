@@ -1,0 +1,9 @@
+pub mod Escaped
+pub mod Numbers
+pub mod Head
+pub mod Found
+pub mod Survivors
+pub mod Tests
+pub mod Matrix
+pub mod Instructions
+pub mod Page
