@@ -9,6 +9,3 @@ mod view;
 
 pub use program::run_program;
 pub use view::run_view;
-
-#[cfg(test)]
-mod tests;

@@ -1,7 +1,7 @@
 use Rattle.std.proofs.Common.{◌≡◌, length}
 use Rattle.std.specs.List.{All}
 use Rattle.am_base.specs.Word.{IsWord}
-use Rattle.base_tests.proofs.lanes.lanes.Given as goal
+use Rattle.lane_ops.proofs.tests.lanes.Given as goal
 
 abbrev pub invariant-lanes : goal.invariant-lanes
 invariant-lanes l = record {

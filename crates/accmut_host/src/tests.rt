@@ -1,1 +1,0 @@
-//! The tests of the devices are in `host_devices`, so that this crate is proved once.
