@@ -1,0 +1,5 @@
+pub mod Live
+pub mod LiveLaws
+pub mod Shown
+pub mod SharedView
+pub mod Written
