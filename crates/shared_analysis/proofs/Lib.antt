@@ -1,0 +1,4 @@
+mod CaseLemmas
+mod NumberLemmas
+mod OwnLemmas
+mod GroupLemmas
